@@ -1,0 +1,7 @@
+pub mod Answers
+pub mod Bytes
+pub mod InTurn
+pub mod Sums
+pub mod Lines
+pub mod Moving
+pub mod Guards

@@ -1,0 +1,5 @@
+pub mod Bytes
+pub mod Steps
+pub mod Sequence
+pub mod Meaning
+pub mod Keeps
