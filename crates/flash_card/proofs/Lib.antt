@@ -1,0 +1,3 @@
+mod Search
+mod PageWrites
+mod CardKeeps
