@@ -106,12 +106,12 @@ pub next-keeps :
     → P (c .after) → ((u : Unit {0}) → P (go u (c .after) .after)) → P (next c go .after)
 next-keeps P c go p q = elim (c .answer) as (λ a. P (next (stepped a (c .after)) go .after)) [ Ok u ↦ q u | Err e ↦ p ]
 
--- two calls that both went well: what holds after the second holds after both
+-- two calls that both went well: what the second leaves is what both leave
 pub next-ok :
     {M : Type 0} (P : M → Type 0) (c : Stepped (Unit {0}) M) (go : Unit {0} → M → Stepped (Unit {0}) M)
-    → (go tt (c .after) .answer ≡ Ok tt → P (go tt (c .after) .after)) → next c go .answer ≡ Ok tt → P (next c go .after)
-next-ok {M} P c go h = ends (c .answer)
+    → (c .answer ≡ Ok tt → go tt (c .after) .answer ≡ Ok tt → P (go tt (c .after) .after)) → next c go .answer ≡ Ok tt → P (next c go .after)
+next-ok {M} P c go h = ends (c .answer) refl
   where
-    ends : (a : Answer (Unit {0})) → next (stepped a (c .after)) go .answer ≡ Ok tt → P (next (stepped a (c .after)) go .after)
-    ends (Ok u) ok = h ok
-    ends (Err e) ok = absurd (let z : _≡_ {A = ℕ} 0 1 = cc in omega arith)
+    ends : (a : Answer (Unit {0})) → c .answer ≡ a → next (stepped a (c .after)) go .answer ≡ Ok tt → P (next (stepped a (c .after)) go .after)
+    ends (Ok u) e ok = h e ok
+    ends (Err x) e ok = absurd (let z : _≡_ {A = ℕ} 0 1 = cc in omega arith)

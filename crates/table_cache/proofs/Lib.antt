@@ -1,0 +1,4 @@
+mod Slots
+mod TableKeeps
+mod TableWithin
+mod Evicting

@@ -1,0 +1,20 @@
+use native.Mathlib.Omega.{arith}
+use mathlib.Core.Path.{sym}
+use Rattle.table_cache.specs.Table.{has-block}
+use Rattle.table_cache.proofs.Slots.{first-here, first-later, first-none}
+use Rattle.table_cache.proofs.slot_table.SlotTable.slot_of.Needs as need
+
+pub returns-then-has-block : need.returns-then-has-block
+returns-then-has-block c =
+    let e = first-here (has-block (c .args .block)) (c .args .self .now .slots .items) (c .loop-i .i) (c .index .result .now) (omega arith) (c .index .ensures) (sym (c .if-has-block .ensures tt)) in
+    omega arith
+
+pub loop-i-again : need.loop-i-again
+loop-i-again c =
+    let e = first-later (has-block (c .args .block)) (c .args .self .now .slots .items) (c .loop-i .i) (c .index .result .now) (omega arith) (c .index .ensures) (sym (c .if-has-block .ensures tt)) in
+    omega arith
+
+pub returns : need.returns
+returns c =
+    let e = first-none (has-block (c .args .block)) (c .args .self .now .slots .items) (c .loop-i .i) (omega arith) in
+    omega arith

@@ -1,0 +1,160 @@
+// The table cache: eight slots over the store below, and a hand that goes round.
+ghost use mathlib.Core.Path.{_≡_};
+ghost use mathlib.Core.Bool.{true};
+ghost use Prim.Native.Nat.{_<_};
+ghost use lib.ListN.{length, replicate};
+ghost use Rattle.std.specs.Results.{Cases};
+ghost use Rattle.std.specs.declared.option.Option.the-variants.{None};
+ghost use Rattle.std.specs.Of.Vec.{vec-items, vec-len};
+ghost use Rattle.store.specs.Steps.{stepped};
+ghost use Rattle.cache.specs.Entries.{sized};
+ghost use Rattle.cache.specs.Preserves.{Preserves};
+ghost use Rattle.table_cache.specs.Table.{TableModel, TableGood, BlocksWithin, Apart, full, slot-of, evict, evict-first, table-put, table-steps, table-meaning};
+ghost use Rattle.table_cache.specs.Tabled.{tabled};
+use cache::Entry;
+use cache::write_back;
+use std::alloc::Global;
+use std::alloc::Refused;
+use store::Store;
+use store::StoreError;
+use store::admit;
+use store::require_power;
+
+pub mod slot_table;
+
+use slot_table::SLOTS;
+use slot_table::SlotTable;
+
+#[derive(Drop)]
+pub struct TableCache<S> {
+    below: S,
+    table: SlotTable,
+    ghost eight: { vec-len (table .slots) ≡ 8 },
+    ghost apart: { Apart (vec-items (table .slots)) },
+    ghost fits: { sized (full (vec-items (table .slots))) ≡ true },
+    ghost round: { table .hand < 8 },
+}
+
+impl<S: Store> TableCache<S> {
+    // An empty table over the store below, or that store back for want of memory. Every slot of it will only
+    // ever hold a block below the count.
+    pub fn new(heap: Global, below: S) -> Result<TableCache<S>, Refused<S>>
+        ensures made { λ r. ⌜ Cases r (λ cache. (cache .below ≡ below) × (vec-items (cache .table .slots) ≡ replicate 8 None) × (cache .table .hand ≡ 0) × BlocksWithin (S·Store .meaning) (tabled (S·Store .model (cache .below)) (cache .table))) (λ back. back .value ≡ below) ⌝ }
+        ensures within { λ _. ⌜ Preserves (table-steps (S·Store .steps)) (TableGood (S·Store .good)) (BlocksWithin (S·Store .meaning)) ⌝ }
+    {
+        match SlotTable::new(heap) {
+            Ok(table) => Ok(TableCache { below, table }),
+            Err(_) => Err(Refused { value: below }),
+        }
+    }
+
+    // The store below, without what the slots hold.
+    pub fn into_below(self) -> S
+        ensures { λ r. ⌜ r ≡ self .below ⌝ }
+    {
+        let TableCache { below, table: _ } = self;
+        below
+    }
+
+    // How many slots are full.
+    pub fn pending(&self) -> usize
+        ensures { λ r. ⌜ r ≡ length (full (vec-items (now (self .entry) .table .slots))) ⌝ }
+    {
+        self.table.full()
+    }
+
+    // The slot at place i is written back and emptied.
+    fn evict(&mut self, i: usize) -> Result<(), StoreError>
+        requires { ⌜ i < 8 ⌝ }
+        ensures { λ r. ⌜ stepped r (tabled (S·Store .model (now (self .exit) .below)) (now (self .exit) .table)) ≡ evict (S·Store .steps) (tabled (S·Store .model (now (self .entry) .below)) (now (self .entry) .table)) i ⌝ }
+    {
+        let entry = self.table.slot(i).take();
+        write_back(&mut self.below, entry)
+    }
+
+    // The block's slot, if it has one, is written back and emptied.
+    fn evict_block(&mut self, block: u32) -> Result<(), StoreError>
+        ensures { λ r. ⌜ stepped r (tabled (S·Store .model (now (self .exit) .below)) (now (self .exit) .table)) ≡ evict (S·Store .steps) (tabled (S·Store .model (now (self .entry) .below)) (now (self .entry) .table)) (slot-of (vec-items (now (self .entry) .table .slots)) block) ⌝ }
+    {
+        let place = self.table.slot_of(block);
+        if place < self.table.slots.len() {
+            self.evict(place)
+        } else {
+            Ok(())
+        }
+    }
+
+    // All slots are written back and emptied, from 0 to 7.
+    fn evict_all(&mut self) -> Result<(), StoreError>
+        ensures { λ r. ⌜ stepped r (tabled (S·Store .model (now (self .exit) .below)) (now (self .exit) .table)) ≡ evict-first (S·Store .steps) 8 (tabled (S·Store .model (now (self .entry) .below)) (now (self .entry) .table)) ⌝ }
+    {
+        for i in 0..SLOTS {
+            self.evict(i)?;
+        }
+        Ok(())
+    }
+
+    // The entry goes into its own slot, else into an empty one, else into the one at the hand, which is written back first.
+    fn put(&mut self, entry: Entry) -> Result<(), StoreError>
+        ensures { λ r. ⌜ stepped r (tabled (S·Store .model (now (self .exit) .below)) (now (self .exit) .table)) ≡ table-put (S·Store .steps) (tabled (S·Store .model (now (self .entry) .below)) (now (self .entry) .table)) entry ⌝ }
+    {
+        let place = self.table.place_for(entry.block);
+        if place < self.table.slots.len() {
+            *self.table.slot(place) = Some(entry);
+            return Ok(());
+        }
+        let hand = self.table.hand;
+        self.evict(hand)?;
+        *self.table.slot(hand) = Some(entry);
+        self.table.hand = if hand < 7 { hand + 1 } else { 0 };
+        Ok(())
+    }
+}
+
+pub impl<S: Store> Store for TableCache<S> as TableStore {
+    ghost Model = { TableModel (S·Store .Model) };
+
+    ghost model = { λ s. tabled (S·Store .model (s .below)) (s .table) };
+
+    ghost steps = { table-steps (S·Store .steps) };
+
+    ghost meaning = { table-meaning (S·Store .meaning) };
+
+    ghost good = { TableGood (S·Store .good) };
+
+    fn count(&self) -> u32 {
+        self.below.count()
+    }
+
+    fn power(&self) -> bool {
+        self.below.power()
+    }
+
+    fn read_block(&mut self, block: u32) -> Result<[u8; 512], StoreError> {
+        admit(block, self.below.count(), self.below.power())?;
+        match self.table.lookup(block) {
+            None => self.below.read_block(block),
+            Some(entry) => Ok(entry.content),
+        }
+    }
+
+    fn put_block(&mut self, block: u32, content: &[u8; 512]) -> Result<(), StoreError> {
+        admit(block, self.below.count(), self.below.power())?;
+        self.put(Entry {
+            block,
+            content: *content,
+        })
+    }
+
+    fn force_block(&mut self, block: u32) -> Result<(), StoreError> {
+        admit(block, self.below.count(), self.below.power())?;
+        self.evict_block(block)?;
+        self.below.force_block(block)
+    }
+
+    fn flush(&mut self) -> Result<(), StoreError> {
+        require_power(self.below.power())?;
+        self.evict_all()?;
+        self.below.flush()
+    }
+}

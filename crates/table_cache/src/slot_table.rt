@@ -1,0 +1,116 @@
+// A table of eight slots, each empty or with an entry, and a hand.
+ghost use mathlib.Core.Path.{_≡_};
+ghost use Prim.Native.Nat.{_<_};
+ghost use lib.ListN.{getD, replicate};
+ghost use ghost.Atoms.{sem};
+ghost use denote.Follow.{follows};
+ghost use denote.Ref.{name};
+ghost use lib.ListN.{length};
+ghost use Rattle.std.specs.Changed.{with-item};
+ghost use Rattle.std.specs.Of.Vec.{vec-items, vec-len};
+ghost use Rattle.std.specs.Vec.{made};
+ghost use Rattle.std.specs.declared.option.Option.the-variants.{None};
+ghost use Rattle.std.specs.contracts.option.Option.{the-row as option-row};
+ghost use Rattle.cache.specs.contracts.Entry.{the-row as entry-row};
+ghost use Rattle.table_cache.specs.contracts.slot_table.SlotTable.{the-row};
+ghost use Rattle.table_cache.specs.Table.{has-block, slot-of, empty-slot, place-for, full};
+use cache::Entry;
+use std::alloc::AllocError;
+use std::alloc::Global;
+
+pub const SLOTS: usize = 8;
+
+#[derive(Drop)]
+pub struct SlotTable {
+    pub slots: Vec<Option<Entry>>,
+    pub hand: usize,
+}
+
+impl SlotTable {
+    // Eight empty slots, with the hand at the first.
+    pub fn new(heap: Global) -> Result<SlotTable, AllocError>
+        ensures { λ r. ⌜ made r (λ t. (vec-items (t .slots) ≡ replicate 8 None) × (t .hand ≡ 0)) ⌝ }
+    {
+        let slots = vec![in heap; None; 8]?;
+        Ok(SlotTable { slots, hand: 0 })
+    }
+
+    // How many slots are full.
+    pub fn full(&self) -> usize
+        ensures { λ r. ⌜ r ≡ length (full (vec-items (now (self .entry) .slots))) ⌝ }
+    {
+        let mut full = 0;
+        for i in 0..self.slots.len() {
+            if self.slots[i].is_some() {
+                full += 1;
+            }
+        }
+        full
+    }
+
+    // The place of the block's slot, or the number of slots.
+    pub fn slot_of(&self, block: u32) -> usize
+        ensures { λ r. ⌜ r ≡ slot-of (vec-items (now (self .entry) .slots)) block ⌝ }
+    {
+        for i in 0..self.slots.len() {
+            if has_block(&self.slots[i], block) {
+                return i;
+            }
+        }
+        self.slots.len()
+    }
+
+    // The place of the first empty slot, or the number of slots.
+    pub fn empty_slot(&self) -> usize
+        ensures { λ r. ⌜ r ≡ empty-slot (vec-items (now (self .entry) .slots)) ⌝ }
+    {
+        for i in 0..self.slots.len() {
+            if self.slots[i].is_none() {
+                return i;
+            }
+        }
+        self.slots.len()
+    }
+
+    // The block's slot, empty if it has none.
+    pub fn lookup(&self, block: u32) -> Option<Entry>
+        ensures { λ r. ⌜ r ≡ getD (vec-items (now (self .entry) .slots)) (slot-of (vec-items (now (self .entry) .slots)) block) None ⌝ }
+    {
+        let place = self.slot_of(block);
+        if place < self.slots.len() {
+            self.slots[place]
+        } else {
+            None
+        }
+    }
+
+    // Where a content for the block goes with no store: its own slot, else the first empty one, else the number of slots.
+    pub fn place_for(&self, block: u32) -> usize
+        ensures { λ r. ⌜ r ≡ place-for (vec-items (now (self .entry) .slots)) block ⌝ }
+    {
+        let place = self.slot_of(block);
+        if place < self.slots.len() {
+            place
+        } else {
+            self.empty_slot()
+        }
+    }
+
+    // One slot, lent to be replaced or emptied.
+    pub fn slot(&mut self, i: usize) -> &mut Option<Entry>
+        requires { ⌜ i < vec-len (now self .slots) ⌝ }
+        ensures value { λ r. ⌜ now r ≡ getD (vec-items (now (self .entry) .slots)) i (now r) ⌝ }
+        ensures follows { λ r. sem 𝓤 H A (follows the-row (option-row entry-row) (name (self .entry)) (name r) (λ w. record { slots = with-item (now (self .entry) .slots) i w; hand = now (self .entry) .hand })) }
+    {
+        &mut self.slots[i]
+    }
+}
+
+fn has_block(slot: &Option<Entry>, block: u32) -> bool
+    ensures { λ r. ⌜ r ≡ has-block block (now (slot .entry)) ⌝ }
+{
+    match slot {
+        None => false,
+        Some(entry) => block == entry.block,
+    }
+}
