@@ -2,9 +2,10 @@
 use mathlib.Core.Path.{_≡_, refl, sym, _∙_, subst}
 use mathlib.Core.List.{[]}
 use mathlib.Core.Logic.{⊎-elim}
-use Prim.Native.Nat.{ℕ, _≤_, _<_}
+use Prim.Native.Nat.{ℕ, _+_, _≤_, _<_}
 use lib.ListN.{length}
 use native.Mathlib.Omega.{arith}
+use native.Mathlib.Nat.{zero-add}
 use Rattle.std.specs.declared.result.Result.the-variants.{Ok, Err}
 use Rattle.std.proofs.shelf.Tests.{cases-lt}
 use Rattle.store.specs.Steps.{Answer, Stepped, stepped, next}
@@ -42,13 +43,13 @@ stays m m′ s on = rests m m′ (λ k. ⊥) s on (λ k h w. absurd w)
 
 -- a call that went well, and then a call on the lines that it left
 pub moves-then :
-    (m m₁ m₂ : Meaning) (line₁ line₂ line : ℕ → Line) (puts : ℕ) (clean₁ clean : ℕ → Type 0) (r : Answer (Unit {0}))
-    → Moves m line₁ 0 clean₁ (Ok tt) m₁
+    (m m₁ m₂ : Meaning) (line₁ line₂ line : ℕ → Line) (puts₁ puts : ℕ) (clean₁ clean : ℕ → Type 0) (r : Answer (Unit {0}))
+    → Moves m line₁ puts₁ clean₁ (Ok tt) m₁
     → 0 < m₁ .grant
     → ((k : ℕ) → k < m .count → Thins (line₁ k) (m₁ .line k) → Thins (line k) (line₂ k))
     → Moves m₁ line₂ puts clean r m₂
-    → Moves m line puts clean r m₂
-moves-then m m₁ m₂ line₁ line₂ line puts clean₁ clean r p on fits q =
+    → Moves m line (puts₁ + puts) clean r m₂
+moves-then m m₁ m₂ line₁ line₂ line puts₁ puts clean₁ clean r p on fits q =
     record {
       count = q .count ∙ p .count;
       falls = omega arith;
@@ -64,25 +65,25 @@ moves-then m m₁ m₂ line₁ line₂ line puts clean₁ clean r p on fits q =
     below k h = rw (p .count) h
 
 -- the same where the first call may also have lost the power
-pub moves-next :
-    {M : Type 0} (meaning : M → Meaning) (m : Meaning) (line line₂ : ℕ → Line) (puts : ℕ) (clean : ℕ → Type 0)
+pub moves-both :
+    {M : Type 0} (meaning : M → Meaning) (m : Meaning) (line₁ line₂ line : ℕ → Line) (puts₁ puts : ℕ) (clean₁ clean : ℕ → Type 0)
     (c : Stepped (Unit {0}) M) (go : Unit {0} → M → Stepped (Unit {0}) M)
-    → Moves m (m .line) 0 (λ k. ⊥) (c .answer) (meaning (c .after))
-    → ((k : ℕ) → Thins (m .line k) (meaning (c .after) .line k) → Thins (line k) (line₂ k))
-    → ((k : ℕ) (l : Line) → Survives (m .line k) l → Survives (line k) l)
+    → Moves m line₁ puts₁ clean₁ (c .answer) (meaning (c .after))
+    → ((k : ℕ) → Thins (line₁ k) (meaning (c .after) .line k) → Thins (line k) (line₂ k))
+    → ((k : ℕ) (l : Line) → Survives (line₁ k) l → Survives (line k) l)
     → (0 < meaning (c .after) .grant → Moves (meaning (c .after)) line₂ puts clean (go tt (c .after) .answer) (meaning (go tt (c .after) .after)))
-    → Moves m line puts clean (next c go .answer) (meaning (next c go .after))
-moves-next meaning m line line₂ puts clean c go p fits wider goes = ⊎-elim on off (cases-lt 0 (meaning (c .after) .grant))
+    → Moves m line (puts₁ + puts) clean (next c go .answer) (meaning (next c go .after))
+moves-both meaning m line₁ line₂ line puts₁ puts clean₁ clean c go p fits wider goes = ⊎-elim on off (cases-lt 0 (meaning (c .after) .grant))
   where
     Goal : Answer (Unit {0}) → Type 0
     Goal a =
         let q = next (stepped a (c .after)) go in
-        Moves m line puts clean (q .answer) (meaning (q .after))
+        Moves m line (puts₁ + puts) clean (q .answer) (meaning (q .after))
 
     on : 0 < meaning (c .after) .grant → Goal (c .answer)
     on g =
         subst Goal (sym (good-answer (c .answer) (p .good g)))
-        (moves-then m (meaning (c .after)) (meaning (go tt (c .after) .after)) (m .line) line₂ line puts (λ k. ⊥) clean (go tt (c .after) .answer)
+        (moves-then m (meaning (c .after)) (meaning (go tt (c .after) .after)) line₁ line₂ line puts₁ puts clean₁ clean (go tt (c .after) .answer)
         (rw (good-answer (c .answer) (p .good g)) at p) g (λ k h. fits k) (goes g))
 
     off : meaning (c .after) .grant ≤ 0 → Goal (c .answer)
@@ -99,6 +100,19 @@ moves-next meaning m line line₂ puts clean c go p fits wider goes = ⊎-elim o
           lost = λ _. refl;
           survives = λ _ k h. wider k (meaning (c .after) .line k) (p .survives g k h);
         })
+
+-- the same where the first call puts nothing
+pub moves-next :
+    {M : Type 0} (meaning : M → Meaning) (m : Meaning) (line line₂ : ℕ → Line) (puts : ℕ) (clean : ℕ → Type 0)
+    (c : Stepped (Unit {0}) M) (go : Unit {0} → M → Stepped (Unit {0}) M)
+    → Moves m (m .line) 0 (λ k. ⊥) (c .answer) (meaning (c .after))
+    → ((k : ℕ) → Thins (m .line k) (meaning (c .after) .line k) → Thins (line k) (line₂ k))
+    → ((k : ℕ) (l : Line) → Survives (m .line k) l → Survives (line k) l)
+    → (0 < meaning (c .after) .grant → Moves (meaning (c .after)) line₂ puts clean (go tt (c .after) .answer) (meaning (go tt (c .after) .after)))
+    → Moves m line puts clean (next c go .answer) (meaning (next c go .after))
+moves-next meaning m line line₂ puts clean c go p fits wider goes =
+    subst (λ n. Moves m line n clean (next c go .answer) (meaning (next c go .after))) (zero-add puts)
+    (moves-both meaning m (m .line) line₂ line 0 puts (λ k. ⊥) clean c go p fits wider goes)
 
 -- what holds after the first call, and then after the second, holds after both
 pub next-keeps :

@@ -1,0 +1,3 @@
+mod Runs
+mod Shifts
+mod Seconds
