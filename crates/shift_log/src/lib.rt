@@ -5,7 +5,9 @@ pub mod recorder;
 pub mod shift;
 
 pub use record::Kind;
+pub use record::LOG_BLOCKS;
 pub use record::Record;
+pub use record::RecordDisplay;
 pub use recorder::Outcome;
 pub use recorder::record_brake;
 pub use recorder::record_second;

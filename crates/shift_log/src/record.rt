@@ -2,6 +2,7 @@
 ghost use mathlib.Core.Path.{_≡_};
 ghost use Rattle.std.specs.declared.option.Option.the-variants.{Some};
 ghost use Rattle.shift_log.specs.Records.{kind-code, block-of, encoded, decoded};
+use std::fmt;
 
 // The encoder's records go round this many blocks; the brake's two blocks follow.
 pub const ENCODER_BLOCKS: u32 = 10;
@@ -80,5 +81,16 @@ impl Record {
             _ => return None,
         };
         Some(Record { kind, second })
+    }
+}
+
+pub impl fmt::Display for Record as RecordDisplay {
+    fn fmt<W: fmt::Write>(&self, f: &mut fmt::Formatter<W>) -> fmt::Result {
+        let second = self.second;
+        match self.kind {
+            Kind::Encoder => write!(f, "encoder, second {second}"),
+            Kind::BrakeCommand => write!(f, "brake command, second {second}"),
+            Kind::BrakePressure => write!(f, "brake pressure, second {second}"),
+        }
     }
 }
