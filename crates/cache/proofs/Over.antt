@@ -34,7 +34,7 @@ over-off m extra g k =
 abbrev pub weight : Meaning → (ℕ → List Content) → ℕ
 weight m extra = sum-below (m .count) (λ k. length (extra k))
 
-held-on : (m : Meaning) (extra : ℕ → List Content) → 0 < m .grant → held (over m extra) ≡ held m + weight m extra
+pub held-on : (m : Meaning) (extra : ℕ → List Content) → 0 < m .grant → held (over m extra) ≡ held m + weight m extra
 held-on m extra g =
     sum-same (m .count) (λ k. length (over m extra .line k .later)) (λ k. length (m .line k .later) + length (extra k))
     (λ k h. rw (over-on m extra g k) (length-append (m .line k .later) (extra k)))

@@ -58,7 +58,7 @@ free bytes count i = cond (ltb (owner bytes i) count) (ltb (first-page bytes (ow
 abbrev pub round : ℕ → ℕ → ℕ
 round n i = cond (ltb i n) i (i - n)
 
--- how many pages from the hand on, counting round, are not free
+-- how many pages, counting round from the hand, come before the first free one
 abbrev pub skipped : CardModel → ℕ
 skipped s =
     let n = pages (s .bytes) in

@@ -36,16 +36,16 @@ pub struct FlashCard {
 }
 
 impl FlashCard {
-    // Do memory and count make a card? It has one page more than blocks.
+    // Do memory and count make a card? It needs one page more than blocks.
     pub fn check(memory: &[u8], count: u32) -> Result<(), Unfit>
-        ensures { λ r. ⌜ check-number r ≡ checked count ((count + 1) * 516) (length (now (memory .entry))) ⌝ }
+        ensures { λ r. ⌜ r ≡ checked count ((count + 1) * 516) (length (now (memory .entry))) ⌝ }
     {
         check(memory, count, (count as usize + 1) * PAGE_BYTES)
     }
 
     // A card over memory so checked, which is left as it is.
     pub fn new(memory: Vec<u8>, count: u32, grant: u32) -> FlashCard
-        requires { ⌜ checked count ((count + 1) * 516) (vec-len memory) ≡ 0 ⌝ }
+        requires { ⌜ check-number (checked count ((count + 1) * 516) (vec-len memory)) ≡ 0 ⌝ }
         ensures { λ r. ⌜ (r .pages .memory ≡ memory) × (r .count ≡ count) × (r .grant ≡ grant) × (r .hand ≡ 0) ⌝ }
     {
         FlashCard {
@@ -81,11 +81,9 @@ impl FlashCard {
         ensures { λ r. ⌜ r ≡ shown (vec-items (now (self .entry) .pages .memory)) block ⌝ }
     {
         let n = self.pages.count();
-        let page = self.pages.first_page(block, n);
-        if page < n {
-            self.pages.content(page)
-        } else {
-            [0; 512]
+        match self.pages.first_page(block, n) {
+            Some(page) => self.pages.content(page),
+            None => [0; 512],
         }
     }
 

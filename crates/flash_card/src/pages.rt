@@ -2,6 +2,7 @@
 ghost use mathlib.Core.Path.{_≡_};
 ghost use Prim.Native.Nat.{_+_, _*_, _≤_, _<_};
 ghost use Rattle.std.specs.Of.Vec.{vec-items, vec-len};
+ghost use Rattle.store.specs.Places.{if-below};
 ghost use Rattle.flash_card.specs.Card.{pages, owner, page-content, first-page, free, round, disown, disown-first, write-page};
 use medium::memory::content_at;
 use medium::memory::overwrite;
@@ -42,17 +43,17 @@ impl Pages {
         content_at(&self.memory, page * PAGE_BYTES + OWNER_BYTES)
     }
 
-    // The first of n pages that the block owns, or n.
-    pub fn first_page(&self, block: u32, n: usize) -> usize
+    // The first of n pages that the block owns.
+    pub fn first_page(&self, block: u32, n: usize) -> Option<usize>
         requires { ⌜ n ≤ pages (vec-items (now self .memory)) ⌝ }
-        ensures { λ r. ⌜ r ≡ first-page (vec-items (now (self .entry) .memory)) block n ⌝ }
+        ensures { λ r. ⌜ r ≡ if-below n (first-page (vec-items (now (self .entry) .memory)) block n) ⌝ }
     {
         for i in 0..n {
             if self.owner(i) == block {
-                return i;
+                return Some(i);
             }
         }
-        n
+        None
     }
 
     // Is the page's owner not below the count, or has an earlier page that owner?
@@ -62,7 +63,7 @@ impl Pages {
     {
         let owner = self.owner(page);
         if owner < count {
-            self.first_page(owner, page) < page
+            self.first_page(owner, page).is_some()
         } else {
             true
         }

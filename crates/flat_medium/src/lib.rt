@@ -32,14 +32,14 @@ pub struct FlatMedium {
 impl FlatMedium {
     // Do memory and count make a medium?
     pub fn check(memory: &[u8], count: u32) -> Result<(), Unfit>
-        ensures { λ r. ⌜ check-number r ≡ checked count (count * 512) (length (now (memory .entry))) ⌝ }
+        ensures { λ r. ⌜ r ≡ checked count (count * 512) (length (now (memory .entry))) ⌝ }
     {
         check(memory, count, count as usize * BLOCK_BYTES)
     }
 
     // A medium over memory so checked, which is left as it is.
     pub fn new(memory: Vec<u8>, count: u32, grant: u32) -> FlatMedium
-        requires { ⌜ checked count (count * 512) (vec-len memory) ≡ 0 ⌝ }
+        requires { ⌜ check-number (checked count (count * 512) (vec-len memory)) ≡ 0 ⌝ }
         ensures { λ r. ⌜ (r .memory ≡ memory) × (r .count ≡ count) × (r .grant ≡ grant) ⌝ }
     {
         FlatMedium {

@@ -13,6 +13,6 @@ check-number (Ok u) = 0
 check-number (Err Count) = 17
 check-number (Err Memory) = 18
 
--- is the count in range, and does the memory hold the bytes that it needs?
-abbrev pub checked : ℕ → ℕ → ℕ → ℕ
-checked count needed size = cond (leb 1 count && leb count 16777216) (cond (leb needed size) 0 18) 17
+-- is the count in range, and does the memory of `size` bytes hold those that it needs?
+abbrev pub checked : ℕ → ℕ → ℕ → Result (Unit {0}) Unfit
+checked count needed size = cond (leb 1 count && leb count 16777216) (cond (leb needed size) (Ok tt) (Err Memory)) (Err Count)

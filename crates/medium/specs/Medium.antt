@@ -38,7 +38,7 @@ abbrev pub medium-meaning : {M : Type 0} → Medium M → M → Meaning
 medium-meaning medium s =
     record { count = medium .count s; grant = medium .grant s; line = λ b. record { first = medium .shown s b; later = [] } }
 
--- what memory of `size` bytes is checked for, where `needed` are needed
+-- the count and the grant are in range, and `size` bytes of memory hold those that are needed
 pub record Fit (count grant needed size : ℕ) : Type 0 where
   pub some : 1 ≤ count
   pub few : count ≤ 16777216

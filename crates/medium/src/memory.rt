@@ -4,12 +4,12 @@ ghost use Prim.Native.Nat.{_+_, _≤_};
 ghost use lib.ListN.{length};
 ghost use Rattle.std.specs.Of.Vec.{vec-items, vec-len};
 ghost use Rattle.store.specs.Bytes.{part, placed};
-ghost use Rattle.medium.specs.Check.{check-number, checked};
+ghost use Rattle.medium.specs.Check.{checked};
 use crate::Unfit;
 
 // Is the count in range, and does the memory hold the bytes that it needs?
 pub fn check(memory: &[u8], count: u32, needed: usize) -> Result<(), Unfit>
-    ensures { λ r. ⌜ check-number r ≡ checked count needed (length (now (memory .entry))) ⌝ }
+    ensures { λ r. ⌜ r ≡ checked count needed (length (now (memory .entry))) ⌝ }
 {
     if count < 1 || count > 16_777_216 {
         Err(Unfit::Count)

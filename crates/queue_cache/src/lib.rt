@@ -2,11 +2,12 @@
 ghost use mathlib.Core.Path.{_≡_};
 ghost use mathlib.Core.List.{[]};
 ghost use mathlib.Core.Bool.{true};
-ghost use Prim.Native.Nat.{_≤_};
+ghost use Prim.Native.Nat.{_+_, _≤_, _<_};
 ghost use lib.ListN.{length};
 ghost use Rattle.std.specs.Results.{Cases};
 ghost use Rattle.std.specs.declared.option.Option.the-variants.{None};
 ghost use Rattle.std.specs.Of.VecDeque.{deque-items, deque-len, deque-cap};
+ghost use Rattle.store.specs.Meaning.{held};
 ghost use Rattle.store.specs.Steps.{stepped};
 ghost use Rattle.cache.specs.Entries.{sized};
 ghost use Rattle.cache.specs.Preserves.{Preserves};
@@ -54,9 +55,11 @@ impl<S: Store> QueueCache<S> {
         below
     }
 
-    // How many places are taken.
+    // How many places are taken. With power on, so many contents are held here beside those held below; without
+    // power they are lost.
     pub fn pending(&self) -> usize
-        ensures { λ r. ⌜ r ≡ length (deque-items (now (self .entry) .entries)) ⌝ }
+        ensures value { λ r. ⌜ r ≡ length (deque-items (now (self .entry) .entries)) ⌝ }
+        ensures held { λ r. ⌜ (BlocksWithin (S·Store .meaning) (queued (deque-items (now (self .entry) .entries)) (S·Store .model (now (self .entry) .below))) → 0 < S·Store .meaning (S·Store .model (now (self .entry) .below)) .grant → held (queue-meaning (S·Store .meaning) (queued (deque-items (now (self .entry) .entries)) (S·Store .model (now (self .entry) .below)))) ≡ held (S·Store .meaning (S·Store .model (now (self .entry) .below))) + r) ⌝ }
     {
         self.entries.len()
     }

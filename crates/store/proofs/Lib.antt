@@ -1,5 +1,6 @@
 pub mod Answers
 pub mod Bytes
+pub mod Places
 pub mod InTurn
 pub mod Sums
 pub mod Lines

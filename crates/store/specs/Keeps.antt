@@ -13,7 +13,7 @@ use Rattle.store.specs.Meaning.{Meaning, Line, newest, held, added, Thins, Sur
 pub record Moves (m : Meaning) (line : ℕ → Line) (puts : ℕ) (clean : ℕ → Type 0) (r : Answer (Unit {0})) (m′ : Meaning) : Type 0 where
   pub count : m′ .count ≡ m .count
   pub falls : m′ .grant ≤ m .grant
-  -- no content is stored twice, and none that was not held or put
+  -- the stores made, and what is still held, are no more than what was held and put
   pub stores : (m .grant - m′ .grant) + held m′ ≤ held m + puts
   -- with power on at the end
   pub good : 0 < m′ .grant → number r ≡ 0

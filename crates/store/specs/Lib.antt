@@ -1,4 +1,5 @@
 pub mod Bytes
+pub mod Places
 pub mod Steps
 pub mod Sequence
 pub mod Meaning

@@ -76,7 +76,7 @@ pub trait Store {
     fn power(&self) -> bool
         ensures { λ r. ⌜ r ≡ steps .power (model (now (self .entry))) ⌝ };
 
-    // The latest content put to the block.
+    // The block's last content: the latest that was put, or what the medium has.
     fn read_block(&mut self, block: u32) -> Result<[u8; 512], StoreError>
         ensures { λ r. ⌜ stepped r (model (now (self .exit))) ≡ steps .read (model (now (self .entry))) block ⌝ };
 

@@ -2,13 +2,14 @@
 use mathlib.Core.List.{List, [], _∷_}
 use mathlib.Core.Bool.{Bool, true, false, not, cond}
 use mathlib.Core.Path.{_≡_}
-use Prim.Native.Nat.{ℕ, zero, suc, _-_, _<_, _≤_}
+use Prim.Native.Nat.{ℕ, suc, _<_, _≤_}
 use lib.Dec.{eqb, ltb}
 use lib.ListN.{length, getD, set}
 use Rattle.std.specs.Options.{isSome}
 use Rattle.std.specs.declared.option.Option.{Option}
 use Rattle.std.specs.declared.option.Option.the-variants.{Some, None}
 use Rattle.std.specs.declared.result.Result.the-variants.{Ok}
+use Rattle.store.specs.Places.{if-below}
 use Rattle.store.specs.Steps.{Content, Steps, Stepped, stepped, next, guarding}
 use Rattle.store.specs.Sequence.{in-turn}
 use Rattle.store.specs.Meaning.{Meaning}
@@ -34,6 +35,10 @@ abbrev pub first-slot : (Option Entry → Bool) → Slots → ℕ
 first-slot test [] = 0
 first-slot test (slot ∷ slots) = cond (test slot) 0 (suc (first-slot test slots))
 
+-- place i, if the table has it
+abbrev pub at-place : Slots → ℕ → Option ℕ
+at-place slots i = if-below (length slots) i
+
 abbrev pub has-block : ℕ → Option Entry → Bool
 has-block b None = false
 has-block b (Some e) = eqb b (e .block)
@@ -44,7 +49,7 @@ slot-of slots b = first-slot (has-block b) slots
 abbrev pub empty-slot : Slots → ℕ
 empty-slot slots = first-slot (λ slot. not (isSome slot)) slots
 
--- where a content for block b goes with no store, or the number of slots
+-- where a content for block b goes if no slot has to be written back: its own slot, else the first empty one
 abbrev pub place-for : Slots → ℕ → ℕ
 place-for slots b = cond (ltb (slot-of slots b) (length slots)) (slot-of slots b) (empty-slot slots)
 

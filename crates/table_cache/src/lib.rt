@@ -1,11 +1,12 @@
 // The table cache: eight slots over the store below, and a hand that goes round.
 ghost use mathlib.Core.Path.{_≡_};
 ghost use mathlib.Core.Bool.{true};
-ghost use Prim.Native.Nat.{_<_};
+ghost use Prim.Native.Nat.{_+_, _<_};
 ghost use lib.ListN.{length, replicate};
 ghost use Rattle.std.specs.Results.{Cases};
 ghost use Rattle.std.specs.declared.option.Option.the-variants.{None};
 ghost use Rattle.std.specs.Of.Vec.{vec-items, vec-len};
+ghost use Rattle.store.specs.Meaning.{held};
 ghost use Rattle.store.specs.Steps.{stepped};
 ghost use Rattle.cache.specs.Entries.{sized};
 ghost use Rattle.cache.specs.Preserves.{Preserves};
@@ -20,7 +21,7 @@ use store::StoreError;
 use store::admit;
 use store::require_power;
 
-pub mod slot_table;
+mod slot_table;
 
 use slot_table::SLOTS;
 use slot_table::SlotTable;
@@ -56,11 +57,13 @@ impl<S: Store> TableCache<S> {
         below
     }
 
-    // How many slots are full.
+    // How many slots are full. With power on, so many contents are held here beside those held below; without
+    // power they are lost.
     pub fn pending(&self) -> usize
-        ensures { λ r. ⌜ r ≡ length (full (vec-items (now (self .entry) .table .slots))) ⌝ }
+        ensures value { λ r. ⌜ r ≡ length (full (vec-items (now (self .entry) .table .slots))) ⌝ }
+        ensures held { λ r. ⌜ (BlocksWithin (S·Store .meaning) (tabled (S·Store .model (now (self .entry) .below)) (now (self .entry) .table)) → 0 < S·Store .meaning (S·Store .model (now (self .entry) .below)) .grant → held (table-meaning (S·Store .meaning) (tabled (S·Store .model (now (self .entry) .below)) (now (self .entry) .table))) ≡ held (S·Store .meaning (S·Store .model (now (self .entry) .below))) + r) ⌝ }
     {
-        self.table.full()
+        self.table.count_full()
     }
 
     // The slot at place i is written back and emptied.
@@ -76,11 +79,9 @@ impl<S: Store> TableCache<S> {
     fn evict_block(&mut self, block: u32) -> Result<(), StoreError>
         ensures { λ r. ⌜ stepped r (tabled (S·Store .model (now (self .exit) .below)) (now (self .exit) .table)) ≡ evict (S·Store .steps) (tabled (S·Store .model (now (self .entry) .below)) (now (self .entry) .table)) (slot-of (vec-items (now (self .entry) .table .slots)) block) ⌝ }
     {
-        let place = self.table.slot_of(block);
-        if place < self.table.slots.len() {
-            self.evict(place)
-        } else {
-            Ok(())
+        match self.table.slot_of(block) {
+            Some(place) => self.evict(place),
+            None => Ok(()),
         }
     }
 
@@ -98,8 +99,7 @@ impl<S: Store> TableCache<S> {
     fn put(&mut self, entry: Entry) -> Result<(), StoreError>
         ensures { λ r. ⌜ stepped r (tabled (S·Store .model (now (self .exit) .below)) (now (self .exit) .table)) ≡ table-put (S·Store .steps) (tabled (S·Store .model (now (self .entry) .below)) (now (self .entry) .table)) entry ⌝ }
     {
-        let place = self.table.place_for(entry.block);
-        if place < self.table.slots.len() {
+        if let Some(place) = self.table.place_for(entry.block) {
             *self.table.slot(place) = Some(entry);
             return Ok(());
         }

@@ -13,7 +13,7 @@ ghost use Rattle.std.specs.declared.option.Option.the-variants.{None};
 ghost use Rattle.std.specs.contracts.option.Option.{the-row as option-row};
 ghost use Rattle.cache.specs.contracts.Entry.{the-row as entry-row};
 ghost use Rattle.table_cache.specs.contracts.slot_table.SlotTable.{the-row};
-ghost use Rattle.table_cache.specs.Table.{has-block, slot-of, empty-slot, place-for, full};
+ghost use Rattle.table_cache.specs.Table.{has-block, at-place, slot-of, empty-slot, place-for, full};
 use cache::Entry;
 use std::alloc::AllocError;
 use std::alloc::Global;
@@ -35,64 +35,59 @@ impl SlotTable {
         Ok(SlotTable { slots, hand: 0 })
     }
 
-    // How many slots are full.
-    pub fn full(&self) -> usize
+    pub fn count_full(&self) -> usize
         ensures { λ r. ⌜ r ≡ length (full (vec-items (now (self .entry) .slots))) ⌝ }
     {
-        let mut full = 0;
+        let mut count = 0;
         for i in 0..self.slots.len() {
             if self.slots[i].is_some() {
-                full += 1;
+                count += 1;
             }
         }
-        full
+        count
     }
 
-    // The place of the block's slot, or the number of slots.
-    pub fn slot_of(&self, block: u32) -> usize
-        ensures { λ r. ⌜ r ≡ slot-of (vec-items (now (self .entry) .slots)) block ⌝ }
+    // The place of the block's slot.
+    pub fn slot_of(&self, block: u32) -> Option<usize>
+        ensures { λ r. ⌜ r ≡ at-place (vec-items (now (self .entry) .slots)) (slot-of (vec-items (now (self .entry) .slots)) block) ⌝ }
     {
         for i in 0..self.slots.len() {
             if has_block(&self.slots[i], block) {
-                return i;
+                return Some(i);
             }
         }
-        self.slots.len()
+        None
     }
 
-    // The place of the first empty slot, or the number of slots.
-    pub fn empty_slot(&self) -> usize
-        ensures { λ r. ⌜ r ≡ empty-slot (vec-items (now (self .entry) .slots)) ⌝ }
+    // The place of the first empty slot.
+    pub fn empty_slot(&self) -> Option<usize>
+        ensures { λ r. ⌜ r ≡ at-place (vec-items (now (self .entry) .slots)) (empty-slot (vec-items (now (self .entry) .slots))) ⌝ }
     {
         for i in 0..self.slots.len() {
             if self.slots[i].is_none() {
-                return i;
+                return Some(i);
             }
         }
-        self.slots.len()
+        None
     }
 
     // The block's slot, empty if it has none.
     pub fn lookup(&self, block: u32) -> Option<Entry>
         ensures { λ r. ⌜ r ≡ getD (vec-items (now (self .entry) .slots)) (slot-of (vec-items (now (self .entry) .slots)) block) None ⌝ }
     {
-        let place = self.slot_of(block);
-        if place < self.slots.len() {
-            self.slots[place]
-        } else {
-            None
+        match self.slot_of(block) {
+            Some(place) => self.slots[place],
+            None => None,
         }
     }
 
-    // Where a content for the block goes with no store: its own slot, else the first empty one, else the number of slots.
-    pub fn place_for(&self, block: u32) -> usize
-        ensures { λ r. ⌜ r ≡ place-for (vec-items (now (self .entry) .slots)) block ⌝ }
+    // Where a content for the block goes if no slot has to be written back: its own slot, else the first empty one.
+    pub fn place_for(&self, block: u32) -> Option<usize>
+        ensures { λ r. ⌜ r ≡ at-place (vec-items (now (self .entry) .slots)) (place-for (vec-items (now (self .entry) .slots)) block) ⌝ }
     {
-        let place = self.slot_of(block);
-        if place < self.slots.len() {
-            place
-        } else {
-            self.empty_slot()
+        match self.slot_of(block) {
+            Some(place) => Some(place),
+            None => self.empty_slot(),
         }
     }
 

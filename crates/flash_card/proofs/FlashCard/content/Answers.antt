@@ -1,16 +1,21 @@
-use mathlib.Core.Path.{_∙_}
-use Rattle.flash_card.specs.Card.{zeros}
+use mathlib.Core.Path.{refl, _∙_}
+use native.Mathlib.Omega.{arith}
+use Rattle.flash_card.specs.Card.{first-page, zeros}
 use Rattle.flash_card.proofs.CardKeeps.{shown-page, shown-none}
+use Rattle.store.proofs.Places.{below-some, below-none}
 use Rattle.flash_card.proofs.FlashCard.content.Needs as need
 
-pub returns-then-page-n : need.returns-then-page-n
-returns-then-page-n c =
-    c .content .ensures
-    ∙ shown-page (c .args .self .now .pages .memory .items) (c .args .block) (c .count-n .result) (c .first-page-page .result)
-    (c .count-n .ensures) (c .first-page-page .ensures) (c .if-page-n .taken)
+pub returns-in-Some : need.returns-in-Some
+returns-in-Some c =
+    let bytes = c .args .self .now .pages .memory .items in
+    let n = c .count-n .result in
+    let at = below-some n (c .in-Some .page) (first-page bytes (c .args .block) n) (c .in-Some .ensures tt) in
+    c .content .ensures ∙ shown-page bytes (c .args .block) n (c .in-Some .page) (c .count-n .ensures) (at .0) (let a = at .0 in let b = at .1 in omega arith)
 
-pub returns-else-page-n : need.returns-else-page-n
+pub returns-in-None : need.returns-in-None
 unfolding zeros
-returns-else-page-n c =
-    shown-none (c .args .self .now .pages .memory .items) (c .args .block) (c .count-n .result) (c .first-page-page .result)
-    (c .count-n .ensures) (c .first-page-page .ensures) (c .if-page-n .left)
+returns-in-None c =
+    let bytes = c .args .self .now .pages .memory .items in
+    let n = c .count-n .result in
+    let page = first-page bytes (c .args .block) n in
+    shown-none bytes (c .args .block) n page (c .count-n .ensures) refl (below-none n page (c .in-None .ensures tt))

@@ -1,11 +1,14 @@
 use mathlib.Core.Path.{sym}
-use native.Mathlib.Omega.{arith}
+use lib.ListN.{length}
 use Rattle.table_cache.specs.Table.{slot-of}
 use Rattle.table_cache.specs.Tabled.{tabled}
 use Rattle.table_cache.proofs.Evicting.{evict-past}
+use Rattle.store.proofs.Places.{below-none}
 use Rattle.table_cache.proofs.TableCache.evict_block.Needs as need
 
-pub returns-else-place-len : need.returns-else-place-len
-returns-else-place-len g c =
+pub returns-in-None : need.returns-in-None
+returns-in-None g c =
     let s = c .args .self .now in
-    sym (evict-past (g .S·Store .steps) (tabled (g .S·Store .model (s .below)) (s .table)) (slot-of (s .table .slots .items) (c .args .block)) (omega (arith, s .table .slots .ok .0)))
+    let slots = s .table .slots .items in
+    let place = slot-of slots (c .args .block) in
+    sym (evict-past (g .S·Store .steps) (tabled (g .S·Store .model (s .below)) (s .table)) place (below-none (length slots) place (c .in-None .ensures tt)))

@@ -5,6 +5,7 @@ use lib.ListN.{length, getD, set}
 use Rattle.std.specs.declared.option.Option.the-variants.{Some, None}
 use Rattle.store.specs.Steps.{Stepped}
 use Rattle.table_cache.specs.Table.{Slots, TableModel, place-for}
+use Rattle.store.proofs.Places.{below-some, below-none}
 use Rattle.table_cache.proofs.Slots.{found, Ready, apart-joined, place-ready, emptied-ready, placeless, every-set}
 use Rattle.cache.proofs.Entries.{fits, fits-from}
 use Rattle.table_cache.proofs.TableCache.put.Needs.{then-hand-lt7, else-hand-lt7}
@@ -15,11 +16,12 @@ ghost-self g c =
     let s = c .args .self .now in
     let slots = s .table .slots .items in
     let e = c .args .entry in
-    let i = c .place-for-place .result in
-    let l : i < length slots = omega (arith, s .table .slots .ok .0) in (
+    let i = c .in-Some .place in
+    let at = below-some (length slots) i (place-for slots (e .block)) (c .in-Some .ensures tt) in
+    let l : i < length slots = let a = at .0 in let b = at .1 in omega arith in (
       s .eight,
       (
-        apart-joined slots i e l (s .apart) (rw (c .place-for-place .ensures) (place-ready slots (e .block))),
+        apart-joined slots i e l (s .apart) (rw (at .0) (place-ready slots (e .block))),
         (every-set fits slots i (Some e) (s .fits) (fits-from e (omega arith)), (s .round, tt)),
       ),
     )
@@ -31,8 +33,7 @@ ghost-self-2 g c =
     let hand = s .table .hand in
     let u = c .evict .last .self in
     let e = c .args .entry in
-    let i = c .place-for-place .result in
-    let p : length slots ≤ place-for slots (e .block) = omega (arith, s .table .slots .ok .0, c .place-for-place .ensures) in
+    let p = below-none (length slots) (place-for slots (e .block)) (c .in-rest .ensures tt) in
     let v : u .table .slots .items ≡ set slots hand None =
     ap (λ (q : Stepped (Unit {0}) (TableModel (g .S·Store .Model))). q .after .slots) (c .in-Continue-evict .ensures tt) in
     let l : hand < length (u .table .slots .items) = omega (arith, u .table .slots .ok .0, u .eight, s .round) in

@@ -1,14 +1,17 @@
 use native.Mathlib.Omega.{arith}
 use mathlib.Core.Path.{ap}
 use mathlib.Core.Bool.{not}
+use lib.ListN.{length}
 use Rattle.std.specs.Options.{isSome}
+use Rattle.table_cache.specs.Table.{empty-slot}
+use Rattle.store.proofs.Places.{below-is, below-past}
 use Rattle.table_cache.proofs.Slots.{first-here, first-later, first-none}
 use Rattle.table_cache.proofs.slot_table.SlotTable.empty_slot.Needs as need
 
 pub returns-then-is-none : need.returns-then-is-none
 returns-then-is-none c =
     let e = first-here (λ slot. not (isSome slot)) (c .args .self .now .slots .items) (c .loop-i .i) (c .index .result .now) (omega arith) (c .index .ensures) (ap not (c .if-is-none .ensures tt)) in
-    omega arith
+    below-is (length (c .args .self .now .slots .items)) (c .loop-i .i) (empty-slot (c .args .self .now .slots .items)) (omega arith) (omega arith)
 
 pub loop-i-again : need.loop-i-again
 loop-i-again c =
@@ -18,4 +21,4 @@ loop-i-again c =
 pub returns : need.returns
 returns c =
     let e = first-none (λ slot. not (isSome slot)) (c .args .self .now .slots .items) (c .loop-i .i) (omega arith) in
-    omega arith
+    below-past (length (c .args .self .now .slots .items)) (empty-slot (c .args .self .now .slots .items)) (omega arith)

@@ -1,8 +1,11 @@
 use mathlib.Core.Path.{sym}
-use native.Mathlib.Omega.{arith}
-use lib.ListN.{List·getD-eq-default}
+use lib.ListN.{length, List·getD-eq-default}
 use Rattle.std.specs.declared.option.Option.the-variants.{None}
+use Rattle.table_cache.specs.Table.{slot-of}
+use Rattle.store.proofs.Places.{below-none}
 use Rattle.table_cache.proofs.slot_table.SlotTable.lookup.Needs as need
 
-pub returns-else-place-len : need.returns-else-place-len
-returns-else-place-len c = sym (List·getD-eq-default (c .args .self .now .slots .items) None (omega arith))
+pub returns-in-None : need.returns-in-None
+returns-in-None c =
+    let slots = c .args .self .now .slots .items in
+    sym (List·getD-eq-default slots None (below-none (length slots) (slot-of slots (c .args .block)) (c .in-None .ensures tt)))

@@ -3,8 +3,8 @@ use Prim.Native.Nat.{_+_, _≤_}
 use lib.ListN.{length, drop}
 use Rattle.std.specs.Of.Vec.{vec-items}
 use Rattle.table_cache.specs.Table.{full}
-use Rattle.table_cache.proofs.slot_table.SlotTable.full.Given as given
+use Rattle.table_cache.proofs.slot_table.SlotTable.count_full.Given as given
 
 abbrev pub Inv-loop-i : given.InvT-loop-i
 Inv-loop-i l =
-    (l .full ≤ l .i) × (l .full + length (full (drop (l .i) (vec-items (l .self .slots)))) ≡ length (full (vec-items (l .self .slots))))
+    (l .count ≤ l .i) × (l .count + length (full (drop (l .i) (vec-items (l .self .slots)))) ≡ length (full (vec-items (l .self .slots))))

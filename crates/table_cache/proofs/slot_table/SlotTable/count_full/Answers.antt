@@ -6,8 +6,8 @@ use lib.ListN.{length, drop}
 use Rattle.std.specs.Options.{isSome}
 use Rattle.table_cache.specs.Table.{full}
 use Rattle.table_cache.proofs.Slots.{full-step, full-end}
-use Rattle.table_cache.proofs.slot_table.SlotTable.full.Needs.{then-is-some, else-is-some}
-use Rattle.table_cache.proofs.slot_table.SlotTable.full.Needs as need
+use Rattle.table_cache.proofs.slot_table.SlotTable.count_full.Needs.{then-is-some, else-is-some}
+use Rattle.table_cache.proofs.slot_table.SlotTable.count_full.Needs as need
 
 pub loop-i-again : need.loop-i-again
 loop-i-again c =
@@ -21,10 +21,10 @@ loop-i-again c =
     elim (c .if-is-some .came) [
       | then-is-some w ↦
           let t : _≡_ {A = ℕ} (cond (isSome slot) 1 0) 1 = ap (λ v. cond {A = ℕ} v 1 0) (sym (c .is-some .ensures) ∙ w .if-is-some .taken) in
-          (omega (arith, w .full-is), omega (arith, w .full-is))
+          (omega (arith, w .count-is), omega (arith, w .count-is))
       | else-is-some w ↦
           let t : _≡_ {A = ℕ} (cond (isSome slot) 1 0) 0 = ap (λ v. cond {A = ℕ} v 1 0) (sym (c .is-some .ensures) ∙ w .if-is-some .left) in
-          (omega (arith, w .full-is), omega (arith, w .full-is))
+          (omega (arith, w .count-is), omega (arith, w .count-is))
     ]
 
 pub returns : need.returns
