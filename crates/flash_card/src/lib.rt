@@ -5,7 +5,7 @@ ghost use lib.ListN.{length};
 ghost use Rattle.std.specs.Of.Vec.{vec-items, vec-len};
 ghost use Rattle.store.specs.Steps.{stepped};
 ghost use Rattle.medium.specs.Check.{check-number, checked};
-ghost use Rattle.medium.specs.Medium.{medium-steps, medium-meaning};
+ghost use Rattle.medium.specs.Medium.{medium-runs, medium-steps, medium-meaning};
 ghost use Rattle.flash_card.specs.Card.{CardModel, CardGood, card, card-model, shown, free-page};
 ghost use Rattle.flash_card.specs.PageLaw.{PutPages};
 use medium::Unfit;
@@ -101,6 +101,17 @@ impl FlashCard {
         }
         round(n, self.hand + n)
     }
+
+    // One store: the first free page takes the content, and the block's other pages are given up.
+    fn write_block(&mut self, block: u32, content: &[u8; 512]) -> Result<(), StoreError>
+        ensures { λ r. ⌜ stepped r (card-model (vec-items (now (self .exit) .pages .memory)) (now (self .exit) .count) (now (self .exit) .grant) (now (self .exit) .hand)) ≡ medium-runs card .put (card-model (vec-items (now (self .entry) .pages .memory)) (now (self .entry) .count) (now (self .entry) .grant) (now (self .entry) .hand)) block (now (content .entry)) ⌝ }
+    {
+        let page = self.free_page();
+        self.pages.disown(block);
+        self.pages.write(page, block, content);
+        self.hand = round(self.pages.count(), page + 1);
+        spend(&mut self.grant)
+    }
 }
 
 pub impl Store for FlashCard as CardStore {
@@ -123,7 +134,7 @@ pub impl Store for FlashCard as CardStore {
     }
 
     fn read_block(&mut self, block: u32) -> Result<[u8; 512], StoreError> {
-        admit(block, self.count, self.grant > 0)?;
+        admit(block, self.count, self.power())?;
         Ok(self.content(block))
     }
 
@@ -131,19 +142,15 @@ pub impl Store for FlashCard as CardStore {
         ensures steps { λ r. ⌜ stepped r (card-model (vec-items (now (self .exit) .pages .memory)) (now (self .exit) .count) (now (self .exit) .grant) (now (self .exit) .hand)) ≡ medium-steps card .put (card-model (vec-items (now (self .entry) .pages .memory)) (now (self .entry) .count) (now (self .entry) .grant) (now (self .entry) .hand)) block (now (content .entry)) ⌝ }
         ensures stores { λ _. ⌜ (block < now (self .entry) .count → 0 < now (self .entry) .grant → PutPages block (now (content .entry)) (card-model (vec-items (now (self .entry) .pages .memory)) (now (self .entry) .count) (now (self .entry) .grant) (now (self .entry) .hand)) (card-model (vec-items (now (self .exit) .pages .memory)) (now (self .exit) .count) (now (self .exit) .grant) (now (self .exit) .hand))) ⌝ }
     {
-        admit(block, self.count, self.grant > 0)?;
-        let page = self.free_page();
-        self.pages.disown(block);
-        self.pages.write(page, block, content);
-        self.hand = round(self.pages.count(), page + 1);
-        spend(&mut self.grant)
+        admit(block, self.count, self.power())?;
+        self.write_block(block, content)
     }
 
     fn force_block(&mut self, block: u32) -> Result<(), StoreError> {
-        admit(block, self.count, self.grant > 0)
+        admit(block, self.count, self.power())
     }
 
     fn flush(&mut self) -> Result<(), StoreError> {
-        require_power(self.grant > 0)
+        require_power(self.power())
     }
 }

@@ -5,7 +5,7 @@ ghost use Rattle.store.specs.Steps.{stepped};
 ghost use lib.ListN.{length};
 ghost use Rattle.std.specs.Of.Vec.{vec-items, vec-len};
 ghost use Rattle.medium.specs.Check.{check-number, checked};
-ghost use Rattle.medium.specs.Medium.{Stores, medium-steps, medium-meaning};
+ghost use Rattle.medium.specs.Medium.{Stores, medium-runs, medium-steps, medium-meaning};
 ghost use Rattle.flat_medium.specs.Flat.{FlatModel, FlatGood, flat, flat-model};
 use medium::Unfit;
 use medium::grant::spend;
@@ -67,6 +67,15 @@ impl FlatMedium {
         } = self;
         memory
     }
+
+    // One store: the content stands at the block's place, and the grant is lower by 1.
+    fn write_block(&mut self, block: u32, content: &[u8; 512]) -> Result<(), StoreError>
+        requires { ⌜ block < now self .count ⌝ }
+        ensures { λ r. ⌜ stepped r (flat-model (vec-items (now (self .exit) .memory)) (now (self .exit) .count) (now (self .exit) .grant)) ≡ medium-runs flat .put (flat-model (vec-items (now (self .entry) .memory)) (now (self .entry) .count) (now (self .entry) .grant)) block (now (content .entry)) ⌝ }
+    {
+        overwrite(&mut self.memory, block as usize * BLOCK_BYTES, content);
+        spend(&mut self.grant)
+    }
 }
 
 pub impl Store for FlatMedium as FlatStore {
@@ -89,7 +98,7 @@ pub impl Store for FlatMedium as FlatStore {
     }
 
     fn read_block(&mut self, block: u32) -> Result<[u8; 512], StoreError> {
-        admit(block, self.count, self.grant > 0)?;
+        admit(block, self.count, self.power())?;
         Ok(content_at(&self.memory, block as usize * BLOCK_BYTES))
     }
 
@@ -97,16 +106,15 @@ pub impl Store for FlatMedium as FlatStore {
         ensures steps { λ r. ⌜ stepped r (flat-model (vec-items (now (self .exit) .memory)) (now (self .exit) .count) (now (self .exit) .grant)) ≡ medium-steps flat .put (flat-model (vec-items (now (self .entry) .memory)) (now (self .entry) .count) (now (self .entry) .grant)) block (now (content .entry)) ⌝ }
         ensures stores { λ _. ⌜ (block < now (self .entry) .count → 0 < now (self .entry) .grant → Stores flat block (now (content .entry)) (flat-model (vec-items (now (self .entry) .memory)) (now (self .entry) .count) (now (self .entry) .grant)) (flat-model (vec-items (now (self .exit) .memory)) (now (self .exit) .count) (now (self .exit) .grant))) ⌝ }
     {
-        admit(block, self.count, self.grant > 0)?;
-        overwrite(&mut self.memory, block as usize * BLOCK_BYTES, content);
-        spend(&mut self.grant)
+        admit(block, self.count, self.power())?;
+        self.write_block(block, content)
     }
 
     fn force_block(&mut self, block: u32) -> Result<(), StoreError> {
-        admit(block, self.count, self.grant > 0)
+        admit(block, self.count, self.power())
     }
 
     fn flush(&mut self) -> Result<(), StoreError> {
-        require_power(self.grant > 0)
+        require_power(self.power())
     }
 }

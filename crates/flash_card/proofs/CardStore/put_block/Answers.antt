@@ -18,10 +18,11 @@ returns c =
       fit = record { some = s .some; few = s .few; granted = s .granted; room = let r = s .room in omega arith };
       hand = let h = s .within in omega arith;
     } in
+    let t = c .write-block .last .self in
     record {
       steps = search needs;
       stores = λ h g.
           subst (PutPages (c .args .block) x m)
-          (sym (put-after card m (card-model (c .write .last .self .memory .items) (s .count) (c .spend .last .grant) (c .round-self .result)) (c .args .block) x (c .spend .result) (search needs) h g))
+          (sym (put-after card m (card-model (t .pages .memory .items) (t .count) (t .grant) (t .hand)) (c .args .block) x (c .write-block .result) (search needs) h g))
           (card-put-pages m (c .args .block) x ok (search needs) h);
     }

@@ -14,10 +14,11 @@ returns c =
     let x = c .args .content .now in
     let ok : FlatGood m =
     record { some = s .some; few = s .few; granted = s .granted; room = let r = s .room in let l = s .memory .ok .0 in omega arith } in
+    let t = c .write-block .last .self in
     record {
       steps = search needs;
       stores = λ h g.
           subst (Stores flat (c .args .block) x m)
-          (sym (put-after flat m (flat-model (c .overwrite .last .memory .items) (s .count) (c .spend .last .grant)) (c .args .block) x (c .spend .result) (search needs) h g))
+          (sym (put-after flat m (flat-model (t .memory .items) (t .count) (t .grant)) (c .args .block) x (c .write-block .result) (search needs) h g))
           (flat-stores m (c .args .block) x ok (search needs) h);
     }
