@@ -46,9 +46,15 @@ fn run(rt: &LibcRuntime, shift: Shift, grant: u32) -> Result<(), AnyError> {
     print_put(rt, shift, outcome)?;
     println!(rt, "  block stores  {stores}")?;
     if power {
-        println!(rt, "  held          {in_table} in the table, {in_queue} in the queue")?;
+        println!(
+            rt,
+            "  held          {in_table} in the table, {in_queue} in the queue"
+        )?;
     } else {
-        println!(rt, "  held          nothing: {in_table} in the table and {in_queue} in the queue went with the power")?;
+        println!(
+            rt,
+            "  held          nothing: {in_table} in the table and {in_queue} in the queue went with the power"
+        )?;
     }
     print_medium(rt, card.into_memory())
 }
@@ -62,7 +68,10 @@ fn record_twice(rt: &LibcRuntime, options: Options) -> Result<(), AnyError> {
     if brake_every == 0 {
         println!(rt, "a shift of {seconds} seconds, no brake action")?;
     } else {
-        println!(rt, "a shift of {seconds} seconds, a brake action every {brake_every}")?;
+        println!(
+            rt,
+            "a shift of {seconds} seconds, a brake action every {brake_every}"
+        )?;
     }
     println!(rt, "power to the end")?;
     run(rt, options.shift, u32::MAX)?;

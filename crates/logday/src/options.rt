@@ -61,6 +61,7 @@ fn number(word: Option<String>, default: u32) -> Result<u32, AnyError>
     };
     match word.as_str().parse::<u32>() {
         Ok(value) => Ok(value),
-        Err(_) => Err("an argument is no number from 0 to 4294967295; logday --help tells what it takes".into()),
+        Err(_) =>
+            Err("an argument is no number from 0 to 4294967295; logday --help tells what it takes".into()),
     }
 }

@@ -23,7 +23,10 @@ pub fn print_put(rt: &LibcRuntime, shift: Shift, outcome: Outcome) -> Result<(),
     println!(rt, "")?;
     let encoder = outcome.seconds;
     let brake = actions.saturating_mul(2);
-    println!(rt, "                {encoder} encoder contents, {brake} brake contents (B)")?;
+    println!(
+        rt,
+        "                {encoder} encoder contents, {brake} brake contents (B)"
+    )?;
     if outcome.answer.is_ok() {
         println!(rt, "  ended         with a flush")?;
     } else if outcome.seconds < shift.seconds {
