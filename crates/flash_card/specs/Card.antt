@@ -68,28 +68,29 @@ skipped s =
 abbrev pub free-page : CardModel → ℕ
 free-page s = round (pages (s .bytes)) (s .hand + skipped s)
 
--- page i, if block b owns it, is given to nobody
-abbrev pub disown : List ℕ → ℕ → ℕ → List ℕ
-disown bytes b i = cond (eqb (owner bytes i) b) (placed bytes (i * 516) (to-be32 nobody)) bytes
+-- page i takes the content, and then block b as its owner
+abbrev pub write-page : List ℕ → ℕ → ℕ → Content → List ℕ
+write-page bytes i b x = placed (placed bytes (i * 516 + 4) x) (i * 516) (to-be32 b)
+
+-- page i, if block b owns it and it is not page p, is given to nobody
+abbrev pub disown : List ℕ → ℕ → ℕ → ℕ → List ℕ
+disown bytes b p i = cond (eqb i p) bytes (cond (eqb (owner bytes i) b) (placed bytes (i * 516) (to-be32 nobody)) bytes)
 
 -- so are the first n pages
-unfoldable pub disown-first : List ℕ → ℕ → ℕ → List ℕ
-disown-first bytes b zero = bytes
-disown-first bytes b (suc n) = disown (disown-first bytes b n) b n
+unfoldable pub disown-first : List ℕ → ℕ → ℕ → ℕ → List ℕ
+disown-first bytes b p zero = bytes
+disown-first bytes b p (suc n) = disown (disown-first bytes b p n) b p n
 
-abbrev pub write-page : List ℕ → ℕ → ℕ → Content → List ℕ
-write-page bytes i b x = placed (placed bytes (i * 516) (to-be32 b)) (i * 516 + 4) x
-
--- The first free page takes the content; every other page of the block is given to nobody.
+-- The first free page takes the content; then every other page of the block is given to nobody.
 abbrev pub card-put : CardModel → ℕ → Content → CardModel
 card-put s b x =
     let n = pages (s .bytes) in
-    let i = free-page s in
+    let p = free-page s in
     record {
-      bytes = write-page (disown-first (s .bytes) b n) i b x;
+      bytes = disown-first (write-page (s .bytes) p b x) b p n;
       count = s .count;
       grant = s .grant - 1;
-      hand = round n (i + 1);
+      hand = round n (p + 1);
     }
 
 abbrev pub card : Medium CardModel

@@ -107,8 +107,8 @@ impl FlashCard {
         ensures { λ r. ⌜ stepped r (card-model (vec-items (now (self .exit) .pages .memory)) (now (self .exit) .count) (now (self .exit) .grant) (now (self .exit) .hand)) ≡ medium-runs card .put (card-model (vec-items (now (self .entry) .pages .memory)) (now (self .entry) .count) (now (self .entry) .grant) (now (self .entry) .hand)) block (now (content .entry)) ⌝ }
     {
         let page = self.free_page();
-        self.pages.disown(block);
         self.pages.write(page, block, content);
+        self.pages.disown_others(block, page);
         self.hand = round(self.pages.count(), page + 1);
         spend(&mut self.grant)
     }

@@ -69,36 +69,39 @@ impl Pages {
         }
     }
 
-    // The page, if the block owns it, is given to nobody.
-    fn disown_page(&mut self, block: u32, page: usize)
-        requires { ⌜ page < pages (vec-items (now self .memory)) ⌝ }
-        ensures items { λ _. ⌜ vec-items (now (self .exit) .memory) ≡ disown (vec-items (now (self .entry) .memory)) block page ⌝ }
-        ensures len { λ _. ⌜ vec-len (now (self .exit) .memory) ≡ vec-len (now (self .entry) .memory) ⌝ }
-    {
-        if self.owner(page) == block {
-            overwrite(&mut self.memory, page * PAGE_BYTES, &NOBODY.to_be_bytes());
-        }
-    }
-
-    // The pages that the block owns are given to nobody.
-    pub fn disown(&mut self, block: u32)
-        ensures items { λ _. ⌜ vec-items (now (self .exit) .memory) ≡ disown-first (vec-items (now (self .entry) .memory)) block (pages (vec-items (now (self .entry) .memory))) ⌝ }
-        ensures len { λ _. ⌜ vec-len (now (self .exit) .memory) ≡ vec-len (now (self .entry) .memory) ⌝ }
-    {
-        for i in 0..self.count() {
-            self.disown_page(block, i);
-        }
-    }
-
-    // The page takes the block's content.
+    // The page takes the content, and then the block as its owner.
     pub fn write(&mut self, page: usize, block: u32, content: &[u8; 512])
         requires { ⌜ page < pages (vec-items (now self .memory)) ⌝ }
         ensures items { λ _. ⌜ vec-items (now (self .exit) .memory) ≡ write-page (vec-items (now (self .entry) .memory)) page block (now (content .entry)) ⌝ }
         ensures len { λ _. ⌜ vec-len (now (self .exit) .memory) ≡ vec-len (now (self .entry) .memory) ⌝ }
     {
         let at = page * PAGE_BYTES;
-        overwrite(&mut self.memory, at, &block.to_be_bytes());
         overwrite(&mut self.memory, at + OWNER_BYTES, content);
+        overwrite(&mut self.memory, at, &block.to_be_bytes());
+    }
+
+    // The page, if the block owns it and it is not the one taken, is given to nobody.
+    fn disown_page(&mut self, block: u32, taken: usize, page: usize)
+        requires { ⌜ page < pages (vec-items (now self .memory)) ⌝ }
+        ensures items { λ _. ⌜ vec-items (now (self .exit) .memory) ≡ disown (vec-items (now (self .entry) .memory)) block taken page ⌝ }
+        ensures len { λ _. ⌜ vec-len (now (self .exit) .memory) ≡ vec-len (now (self .entry) .memory) ⌝ }
+    {
+        if page == taken {
+            return;
+        }
+        if self.owner(page) == block {
+            overwrite(&mut self.memory, page * PAGE_BYTES, &NOBODY.to_be_bytes());
+        }
+    }
+
+    // The block's pages, but for the page taken, are given to nobody.
+    pub fn disown_others(&mut self, block: u32, taken: usize)
+        ensures items { λ _. ⌜ vec-items (now (self .exit) .memory) ≡ disown-first (vec-items (now (self .entry) .memory)) block taken (pages (vec-items (now (self .entry) .memory))) ⌝ }
+        ensures len { λ _. ⌜ vec-len (now (self .exit) .memory) ≡ vec-len (now (self .entry) .memory) ⌝ }
+    {
+        for i in 0..self.count() {
+            self.disown_page(block, taken, i);
+        }
     }
 }
 
