@@ -14,9 +14,6 @@ pub record CardModel : Type 0 where
   pub grant : ℕ
   pub hand : ℕ
 
-abbrev pub card-model : List ℕ → ℕ → ℕ → ℕ → CardModel
-card-model bytes count grant hand = record { bytes = bytes; count = count; grant = grant; hand = hand }
-
 -- as many pages as fit; bytes past the last one belong to none
 abbrev pub pages : List ℕ → ℕ
 pages bytes = length bytes / 516

@@ -10,9 +10,6 @@ pub record FlatModel : Type 0 where
   pub count : ℕ
   pub grant : ℕ
 
-abbrev pub flat-model : List ℕ → ℕ → ℕ → FlatModel
-flat-model bytes count grant = record { bytes = bytes; count = count; grant = grant }
-
 abbrev pub flat : Medium FlatModel
 flat =
     record {
