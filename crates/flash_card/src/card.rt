@@ -17,4 +17,3 @@ pub struct FlashCard {
     ghost room: { (count + 1) * 516 ≤ vec-len (pages .memory) },
     ghost within: { hand < vec-len (pages .memory) / 516 },
 }
-

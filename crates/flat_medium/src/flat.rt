@@ -14,4 +14,3 @@ pub struct FlatMedium {
     ghost granted: { grant ≤ 4294967295 },
     ghost room: { count * 512 ≤ vec-len memory },
 }
-

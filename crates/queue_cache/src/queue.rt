@@ -18,4 +18,3 @@ pub struct QueueCache<S> {
     ghost roomy: { 16 ≤ deque-cap entries },
     ghost fits: { sized (deque-items entries) ≡ true },
 }
-

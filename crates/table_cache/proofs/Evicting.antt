@@ -7,7 +7,8 @@ use Rattle.std.specs.declared.option.Option.the-variants.{None}
 use Rattle.std.specs.declared.result.Result.the-variants.{Ok}
 use Rattle.store.specs.Steps.{Steps, stepped}
 use Rattle.cache.specs.WriteBack.{write-back, raised}
-use Rattle.table_cache.specs.Table.{TableModel, Slots, over-below, with-slot, evict}
+use Rattle.table_cache.specs.Table.{TableModel, over-below, with-slot, evict}
+use Rattle.slot_table.specs.Slots.{Slots}
 
 pub evict-past : {B : Type 0} (steps : Steps B) (t : TableModel B) (i : ℕ) → length (t .slots) ≤ i → evict steps t i ≡ stepped (Ok tt) t
 evict-past steps t i h =

@@ -1,4 +1,3 @@
-mod Slots
 mod TableKeeps
 mod TableWithin
 mod Evicting

@@ -20,9 +20,10 @@ use Rattle.store.proofs.Moving.{stays, moves-next, next-keeps, next-ok}
 use Rattle.store.proofs.Guards.{same-refl, Runs, guarding-keeps}
 use Rattle.cache.specs.declared.Entry.{Entry}
 use Rattle.cache.specs.WriteBack.{raised}
-use Rattle.table_cache.specs.Table.{TableModel, TableGood, evict, evict-first, replaced, with-slot, over-below, place-for, slot-of, turned, full, table-read, table-put, table-force, table-flush, table-runs, table-steps, table-meaning}
+use Rattle.table_cache.specs.Table.{TableModel, TableGood, evict, evict-first, replaced, with-slot, over-below, turned, table-read, table-put, table-force, table-flush, table-runs, table-steps, table-meaning}
+use Rattle.slot_table.specs.Slots.{place-for, slot-of, full}
 use Rattle.cache.proofs.Over.{Leaves, over-on, newest-followed, sound-over, join-moves, back-moves, back-good, read-moves, force-moves, flush-moves}
-use Rattle.table_cache.proofs.Slots.{found, Free, Ready, emptied, apart-emptied, free-emptied, free-set, all-free, joined, apart-joined, struck, sought, place-ready, emptied-ready, placeless, vacated, every-set, sized-at}
+use Rattle.slot_table.proofs.Slots.{found, Free, Ready, emptied, apart-emptied, free-emptied, free-set, all-free, joined, apart-joined, struck, sought, place-ready, emptied-ready, placeless, vacated, every-set, sized-at}
 use Rattle.cache.proofs.Entries.{fits, fits-from, sized-waiting}
 
 module _ {B : Type 0} (steps : Steps B) (meaning : B → Meaning) (good : B → Type 0) (K : Keeps steps meaning good) where

@@ -19,8 +19,9 @@ use Rattle.cache.specs.Preserves.{Preserves}
 use Rattle.cache.specs.WriteBack.{raised}
 use Rattle.cache.proofs.Over.{back-count}
 use Rattle.cache.proofs.Entries.{within-same}
-use Rattle.table_cache.specs.Table.{TableModel, TableGood, BlocksWithin, full, place-for, slot-of, over-below, with-slot, replaced, evict, evict-first, table-read, table-put, table-force, table-flush, table-steps}
-use Rattle.table_cache.proofs.Slots.{every-set, sized-at}
+use Rattle.table_cache.specs.Table.{TableModel, TableGood, BlocksWithin, over-below, with-slot, replaced, evict, evict-first, table-read, table-put, table-force, table-flush, table-steps}
+use Rattle.slot_table.specs.Slots.{full, place-for, slot-of}
+use Rattle.slot_table.proofs.Slots.{every-set, sized-at}
 use Rattle.table_cache.proofs.TableKeeps.{evict-good, evict-first-good}
 
 module _ {B : Type 0} (steps : Steps B) (meaning : B → Meaning) (good : B → Type 0) (K : Keeps steps meaning good) where

@@ -1,61 +1,24 @@
 -- The table cache: eight slots over the store below, and a hand that goes round.
-use mathlib.Core.List.{List, [], _∷_}
-use mathlib.Core.Bool.{Bool, true, false, not, cond}
+use mathlib.Core.Bool.{true, cond}
 use mathlib.Core.Path.{_≡_}
-use Prim.Native.Nat.{ℕ, suc, _<_, _≤_}
-use lib.Dec.{eqb, ltb}
+use Prim.Native.Nat.{ℕ, suc, _<_}
+use lib.Dec.{ltb}
 use lib.ListN.{length, getD, set}
-use Rattle.std.specs.Options.{isSome}
 use Rattle.std.specs.declared.option.Option.{Option}
 use Rattle.std.specs.declared.option.Option.the-variants.{Some, None}
 use Rattle.std.specs.declared.result.Result.the-variants.{Ok}
-use Rattle.store.specs.Places.{if-below}
 use Rattle.store.specs.Steps.{Content, Steps, Stepped, stepped, next, guarding}
 use Rattle.store.specs.Sequence.{in-turn}
 use Rattle.store.specs.Meaning.{Meaning}
 use Rattle.cache.specs.declared.Entry.{Entry}
 use Rattle.cache.specs.Entries.{waiting, over, sized, within}
 use Rattle.cache.specs.WriteBack.{write-back, raised}
-
-abbrev pub Slots : Type 0
-Slots = List (Option Entry)
+use Rattle.slot_table.specs.Slots.{Slots, full, slot-of, place-for, Apart}
 
 pub record TableModel (B : Type 0) : Type 0 where
   pub below : B
   pub slots : Slots
   pub hand : ℕ
-
-abbrev pub full : Slots → List Entry
-full [] = []
-full (None ∷ slots) = full slots
-full (Some e ∷ slots) = e ∷ full slots
-
--- the place of the first slot that passes a test, or the number of slots
-abbrev pub first-slot : (Option Entry → Bool) → Slots → ℕ
-first-slot test [] = 0
-first-slot test (slot ∷ slots) = cond (test slot) 0 (suc (first-slot test slots))
-
--- place i, if the table has it
-abbrev pub at-place : Slots → ℕ → Option ℕ
-at-place slots i = if-below (length slots) i
-
-abbrev pub has-block : ℕ → Option Entry → Bool
-has-block b None = false
-has-block b (Some e) = eqb b (e .block)
-
-abbrev pub slot-of : Slots → ℕ → ℕ
-slot-of slots b = first-slot (has-block b) slots
-
-abbrev pub empty-slot : Slots → ℕ
-empty-slot slots = first-slot (λ slot. not (isSome slot)) slots
-
--- where a content for block b goes if no slot has to be written back: its own slot, else the first empty one
-abbrev pub place-for : Slots → ℕ → ℕ
-place-for slots b = cond (ltb (slot-of slots b) (length slots)) (slot-of slots b) (empty-slot slots)
-
--- no two slots hold one block
-abbrev pub Apart : Slots → Type 0
-Apart slots = (b : ℕ) → length (waiting (full slots) b) ≤ 1
 
 abbrev pub turned : ℕ → ℕ
 turned hand = cond (ltb hand 7) (suc hand) 0

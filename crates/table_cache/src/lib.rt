@@ -1,5 +1,4 @@
 // The table cache: eight slots over the store below, and a hand that goes round.
-mod slot_table;
 mod table;
 
 pub use table::TableCache;

@@ -4,8 +4,8 @@ ghost use mathlib.Core.Bool.{true};
 ghost use Prim.Native.Nat.{_<_};
 ghost use Rattle.std.specs.Of.Vec.{vec-items, vec-len};
 ghost use Rattle.cache.specs.Entries.{sized};
-ghost use Rattle.table_cache.specs.Table.{Apart, full};
-use crate::slot_table::SlotTable;
+ghost use Rattle.slot_table.specs.Slots.{Apart, full};
+use slot_table::SlotTable;
 
 pub mod calls;
 
@@ -18,4 +18,3 @@ pub struct TableCache<S> {
     ghost fits: { sized (full (vec-items (table .slots))) ≡ true },
     ghost round: { table .hand < 8 },
 }
-

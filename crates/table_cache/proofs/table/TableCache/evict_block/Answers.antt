@@ -1,6 +1,6 @@
 use mathlib.Core.Path.{sym}
 use lib.ListN.{length}
-use Rattle.table_cache.specs.Table.{slot-of}
+use Rattle.slot_table.specs.Slots.{slot-of}
 use Rattle.table_cache.specs.Modeled.{table-model}
 use Rattle.table_cache.proofs.Evicting.{evict-past}
 use Rattle.store.proofs.Places.{below-none}

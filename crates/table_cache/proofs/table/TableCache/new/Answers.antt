@@ -4,7 +4,7 @@ use Prim.Native.Nat.{ℕ}
 use lib.ListN.{replicate}
 use Rattle.std.specs.declared.option.Option.the-variants.{None}
 use Rattle.cache.specs.Entries.{within}
-use Rattle.table_cache.specs.Table.{Slots, full}
+use Rattle.slot_table.specs.Slots.{Slots, full}
 use Rattle.table_cache.proofs.TableWithin.{table-within}
 use Rattle.table_cache.proofs.table.TableCache.new.Needs as need
 

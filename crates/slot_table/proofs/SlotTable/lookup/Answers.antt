@@ -1,9 +1,9 @@
 use mathlib.Core.Path.{sym}
 use lib.ListN.{length, List·getD-eq-default}
 use Rattle.std.specs.declared.option.Option.the-variants.{None}
-use Rattle.table_cache.specs.Table.{slot-of}
+use Rattle.slot_table.specs.Slots.{slot-of}
 use Rattle.store.proofs.Places.{below-none}
-use Rattle.table_cache.proofs.slot_table.SlotTable.lookup.Needs as need
+use Rattle.slot_table.proofs.SlotTable.lookup.Needs as need
 
 pub returns-in-None : need.returns-in-None
 returns-in-None c =

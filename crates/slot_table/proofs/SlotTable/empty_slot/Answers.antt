@@ -3,10 +3,10 @@ use mathlib.Core.Path.{ap}
 use mathlib.Core.Bool.{not}
 use lib.ListN.{length}
 use Rattle.std.specs.Options.{isSome}
-use Rattle.table_cache.specs.Table.{empty-slot}
+use Rattle.slot_table.specs.Slots.{empty-slot}
 use Rattle.store.proofs.Places.{below-is, below-past}
-use Rattle.table_cache.proofs.Slots.{first-here, first-later, first-none}
-use Rattle.table_cache.proofs.slot_table.SlotTable.empty_slot.Needs as need
+use Rattle.slot_table.proofs.Slots.{first-here, first-later, first-none}
+use Rattle.slot_table.proofs.SlotTable.empty_slot.Needs as need
 
 pub returns-then-is-none : need.returns-then-is-none
 returns-then-is-none c =

@@ -15,7 +15,7 @@ use Rattle.std.proofs.shelf.Tests.{cond-true, cond-false, cond-both, eq-eqb, ne
 use Rattle.store.specs.Steps.{Content}
 use Rattle.cache.specs.declared.Entry.{Entry}
 use Rattle.cache.specs.Entries.{waiting, every, sized}
-use Rattle.table_cache.specs.Table.{Slots, full, first-slot, slot-of, empty-slot, place-for, Apart}
+use Rattle.slot_table.specs.Slots.{Slots, full, first-slot, slot-of, empty-slot, place-for, Apart}
 use Rattle.store.proofs.Lines.{thinned-refl, thinned-length}
 use Rattle.cache.proofs.Over.{Leaves, Sized-entry, Joined, Struck, struck-left}
 use Rattle.cache.proofs.Entries.{none-left, passes, every-head, every-tail, every-cons, fits, sized-entry}

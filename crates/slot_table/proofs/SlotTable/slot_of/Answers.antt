@@ -1,10 +1,10 @@
 use native.Mathlib.Omega.{arith}
 use mathlib.Core.Path.{sym}
 use lib.ListN.{length}
-use Rattle.table_cache.specs.Table.{has-block, slot-of}
+use Rattle.slot_table.specs.Slots.{has-block, slot-of}
 use Rattle.store.proofs.Places.{below-is, below-past}
-use Rattle.table_cache.proofs.Slots.{first-here, first-later, first-none}
-use Rattle.table_cache.proofs.slot_table.SlotTable.slot_of.Needs as need
+use Rattle.slot_table.proofs.Slots.{first-here, first-later, first-none}
+use Rattle.slot_table.proofs.SlotTable.slot_of.Needs as need
 
 pub returns-then-has-block : need.returns-then-has-block
 returns-then-has-block c =

@@ -2,8 +2,8 @@ use mathlib.Core.Path.{_≡_}
 use Prim.Native.Nat.{_+_, _≤_}
 use lib.ListN.{length, drop}
 use Rattle.std.specs.Of.Vec.{vec-items}
-use Rattle.table_cache.specs.Table.{full}
-use Rattle.table_cache.proofs.slot_table.SlotTable.count_full.Given as given
+use Rattle.slot_table.specs.Slots.{full}
+use Rattle.slot_table.proofs.SlotTable.count_full.Given as given
 
 abbrev pub Inv-loop-i : given.InvT-loop-i
 Inv-loop-i l =
