@@ -18,6 +18,7 @@ pub record CardModel : Type 0 where
 abbrev pub pages : List ℕ → ℕ
 pages bytes = length bytes / 516
 
+-- the owner of page i
 unfoldable pub owner : List ℕ → ℕ → ℕ
 owner bytes i = from-be32 (part bytes (i * 516) 4)
 

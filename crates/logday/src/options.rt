@@ -65,3 +65,45 @@ fn number(word: Option<String>, default: u32) -> Result<u32, AnyError>
             Err("an argument is no number from 0 to 4294967295; logday --help tells what it takes".into()),
     }
 }
+
+#[cfg(test)]
+mod tests {
+    use super::*;
+    use std::alloc::Global;
+    use std::test::*;
+
+    // What is parsed of these words: the three numbers, or none where help is asked for.
+    fn parsed(heap: Global, words: &[&str]) -> Result<Option<(u32, u32, u32)>, Fail> {
+        let mut args = Vec::new(heap);
+        for word in words {
+            args.push(String::from_str(heap, *word)?)?;
+        }
+        match Options::parse(args.into_iter())? {
+            Some(options) => Ok(Some((
+                options.shift.seconds,
+                options.shift.brake_every,
+                options.stores,
+            ))),
+            None => Ok(None),
+        }
+    }
+
+    #[test]
+    fn words_that_are_not_there_have_defaults(rt: LibcRuntime) -> Result<(), Fail> {
+        check_eq(parsed(rt.alloc(), &[])?, Some((24, 8, 12)))?;
+        check_eq(parsed(rt.alloc(), &["86400", "0"])?, Some((86400, 0, 12)))
+    }
+
+    #[test]
+    fn help_asks_for_no_run(rt: LibcRuntime) -> Result<(), Fail> {
+        check_eq(parsed(rt.alloc(), &["--help"])?, None)
+    }
+
+    #[test]
+    fn bad_words_are_refused(rt: LibcRuntime) -> Result<(), Fail> {
+        check(parsed(rt.alloc(), &["x"]).is_err())?;
+        check(parsed(rt.alloc(), &["1", "-2"]).is_err())?;
+        check(parsed(rt.alloc(), &["86401"]).is_err())?;
+        check(parsed(rt.alloc(), &["1", "2", "3", "4"]).is_err())
+    }
+}

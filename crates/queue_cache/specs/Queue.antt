@@ -27,9 +27,11 @@ abbrev pub latest : Option Content → List Entry → ℕ → Option Content
 latest found [] b = found
 latest found (e ∷ es) b = latest (cond (eqb b (e .block)) (Some (e .content)) found) es b
 
+-- is a content of block b held?
 abbrev pub holds : ℕ → List Entry → Bool
 holds b es = isSome (latest None es b)
 
+-- is any content held?
 abbrev pub any : List Entry → Bool
 any es = ltb 0 (length es)
 
@@ -52,6 +54,7 @@ drain steps wanted s (e ∷ es) =
 abbrev pub drained : {B : Type 0} → Steps B → (List Entry → Bool) → QueueModel B → Stepped (Unit {0}) (QueueModel B)
 drained steps wanted q = drain steps wanted (q .below) (q .entries)
 
+-- the newest content of the block, else the store below
 abbrev pub queue-read : {B : Type 0} → Steps B → QueueModel B → ℕ → Stepped Content (QueueModel B)
 queue-read steps q b =
     elim (latest None (q .entries) b) [
@@ -59,15 +62,18 @@ queue-read steps q b =
       | Some x ↦ stepped (Ok x) q
     ]
 
+-- to the end; if all sixteen places are taken, the oldest is written back first
 abbrev pub queue-put : {B : Type 0} → Steps B → QueueModel B → Entry → Stepped (Unit {0}) (QueueModel B)
 queue-put steps q e =
     next (cond (ltb (length (q .entries)) 16) (stepped (Ok tt) q) (evict-oldest steps (q .below) (q .entries)))
     (λ _ u. stepped (Ok tt) (queued (u .entries ++ (e ∷ [])) (u .below)))
 
+-- the oldest are written back until none of the block remains, and the store below forced
 abbrev pub queue-force : {B : Type 0} → Steps B → QueueModel B → ℕ → Stepped (Unit {0}) (QueueModel B)
 queue-force steps q b =
     next (drained steps (holds b) q) (λ _ u. raised (queued (u .entries)) (steps .force (u .below) b))
 
+-- all are written back, oldest first, and the store below flushed
 abbrev pub queue-flush : {B : Type 0} → Steps B → QueueModel B → Stepped (Unit {0}) (QueueModel B)
 queue-flush steps q = next (drained steps any q) (λ _ u. raised (queued (u .entries)) (steps .flush (u .below)))
 

@@ -24,7 +24,7 @@ pub record Outcomes (n every : ℕ) (r : Answer (Unit {0})) (m m′ : Meaning) :
   -- if it goes, each block is on the medium with one of the contents that it had or that were put to it
   pub lost : m′ .grant ≡ 0 → number r ≡ 1
   pub one-of : m′ .grant ≡ 0 → (b : ℕ) → b < m .count → Among (m′ .line b .first) (contents (m .line b) ++ shift-put-to n every b)
-  -- no content is stored more often than it was put
+  -- no more block stores are made than contents were held and put
   pub stores : m .grant - m′ .grant ≤ held m + shift-puts n every
 
 abbrev pub Recorded : ℕ → ℕ → Answer (Unit {0}) → Meaning → Meaning → Type 0

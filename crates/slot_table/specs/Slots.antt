@@ -14,6 +14,7 @@ use Rattle.cache.specs.Entries.{waiting}
 abbrev pub Slots : Type 0
 Slots = List (Option Entry)
 
+-- the entries of the full slots, in order
 abbrev pub full : Slots → List Entry
 full [] = []
 full (None ∷ slots) = full slots
@@ -32,9 +33,11 @@ abbrev pub has-block : ℕ → Option Entry → Bool
 has-block b None = false
 has-block b (Some e) = eqb b (e .block)
 
+-- the place of block b's slot, or the number of slots
 abbrev pub slot-of : Slots → ℕ → ℕ
 slot-of slots b = first-slot (has-block b) slots
 
+-- the place of the first empty slot, or the number of slots
 abbrev pub empty-slot : Slots → ℕ
 empty-slot slots = first-slot (λ slot. not (isSome slot)) slots
 

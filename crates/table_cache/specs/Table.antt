@@ -20,16 +20,19 @@ pub record TableModel (B : Type 0) : Type 0 where
   pub slots : Slots
   pub hand : ℕ
 
+-- the hand moved on, from 7 to 0
 abbrev pub turned : ℕ → ℕ
 turned hand = cond (ltb hand 7) (suc hand) 0
 
+-- the table over another state of the store below
 abbrev pub over-below : {B : Type 0} → TableModel B → B → TableModel B
 over-below t s = record { below = s; slots = t .slots; hand = t .hand }
 
+-- the table with the slot at place i replaced
 abbrev pub with-slot : {B : Type 0} → TableModel B → ℕ → Option Entry → TableModel B
 with-slot t i slot = record { below = t .below; slots = set (t .slots) i slot; hand = t .hand }
 
--- the content at the hand, and the hand moved on
+-- the table with an entry at the hand, and the hand moved on
 abbrev pub replaced : {B : Type 0} → TableModel B → Entry → TableModel B
 replaced t e = record { below = t .below; slots = set (t .slots) (t .hand) (Some e); hand = turned (t .hand) }
 
@@ -41,6 +44,7 @@ evict steps t i = raised (over-below (with-slot t i None)) (write-back steps (t 
 unfoldable pub evict-first : {B : Type 0} → Steps B → ℕ → TableModel B → Stepped (Unit {0}) (TableModel B)
 evict-first steps n t = in-turn n (λ i u. evict steps u i) t
 
+-- the block's slot, else the store below
 abbrev pub table-read : {B : Type 0} → Steps B → TableModel B → ℕ → Stepped Content (TableModel B)
 table-read steps t b =
     elim (getD (t .slots) (slot-of (t .slots) b) None) [
@@ -48,6 +52,7 @@ table-read steps t b =
       | Some e ↦ stepped (Ok (e .content)) t
     ]
 
+-- into the block's own slot, else the first empty one, else the slot at the hand, which is written back first
 abbrev pub table-put : {B : Type 0} → Steps B → TableModel B → Entry → Stepped (Unit {0}) (TableModel B)
 table-put steps t e =
     let place = place-for (t .slots) (e .block) in
@@ -55,10 +60,12 @@ table-put steps t e =
     (stepped (Ok tt) (with-slot t place (Some e)))
     (next (evict steps t (t .hand)) (λ _ u. stepped (Ok tt) (replaced u e)))
 
+-- the block's slot is written back and emptied, and the store below forced
 abbrev pub table-force : {B : Type 0} → Steps B → TableModel B → ℕ → Stepped (Unit {0}) (TableModel B)
 table-force steps t b =
     next (evict steps t (slot-of (t .slots) b)) (λ _ u. raised (over-below u) (steps .force (u .below) b))
 
+-- all slots are written back and emptied, from 0 to 7, and the store below flushed
 abbrev pub table-flush : {B : Type 0} → Steps B → TableModel B → Stepped (Unit {0}) (TableModel B)
 table-flush steps t = next (evict-first steps 8 t) (λ _ u. raised (over-below u) (steps .flush (u .below)))
 
