@@ -72,38 +72,20 @@ mod tests {
     use std::alloc::Global;
     use std::test::*;
 
-    // What is parsed of these words: the three numbers, or none where help is asked for.
-    fn parsed(heap: Global, words: &[&str]) -> Result<Option<(u32, u32, u32)>, Fail> {
+    // The words as the program is given them.
+    fn given(heap: Global, words: &[&str]) -> Result<Args, Fail> {
         let mut args = Vec::new(heap);
         for word in words {
-            args.push(String::from_str(heap, *word)?)?;
+            args.push(String::from_str(heap, word)?)?;
         }
-        match Options::parse(args.into_iter())? {
-            Some(options) => Ok(Some((
-                options.shift.seconds,
-                options.shift.brake_every,
-                options.stores,
-            ))),
-            None => Ok(None),
-        }
-    }
-
-    #[test]
-    fn words_that_are_not_there_have_defaults(rt: LibcRuntime) -> Result<(), Fail> {
-        check_eq(parsed(rt.alloc(), &[])?, Some((24, 8, 12)))?;
-        check_eq(parsed(rt.alloc(), &["86400", "0"])?, Some((86400, 0, 12)))
-    }
-
-    #[test]
-    fn help_asks_for_no_run(rt: LibcRuntime) -> Result<(), Fail> {
-        check_eq(parsed(rt.alloc(), &["--help"])?, None)
+        Ok(args.into_iter())
     }
 
     #[test]
     fn bad_words_are_refused(rt: LibcRuntime) -> Result<(), Fail> {
-        check(parsed(rt.alloc(), &["x"]).is_err())?;
-        check(parsed(rt.alloc(), &["1", "-2"]).is_err())?;
-        check(parsed(rt.alloc(), &["86401"]).is_err())?;
-        check(parsed(rt.alloc(), &["1", "2", "3", "4"]).is_err())
+        for word in ["x", "-2", "86401"] {
+            check(Options::parse(given(rt.alloc(), &[word])?).is_err())?;
+        }
+        check(Options::parse(given(rt.alloc(), &["1", "2", "3", "4"])?).is_err())
     }
 }
