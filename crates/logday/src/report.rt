@@ -9,31 +9,46 @@ use shift_log::Shift;
 use std::error::AnyError;
 use store::Store;
 
-// The seconds that were recorded whole, and how the recording ended.
+// so many seconds with a brake action are listed
+const LISTED: u32 = 12;
+
+// What was put in the seconds that were recorded whole, and how the recording ended.
 pub fn print_put(rt: &LibcRuntime, shift: Shift, outcome: Outcome) -> Result<(), AnyError> {
-    print!(rt, "  put           whole seconds")?;
-    let mut actions = 0u32;
-    for second in 0..outcome.seconds {
-        print!(rt, " {second}")?;
-        if shift.brakes_at(second) {
-            print!(rt, "B")?;
-            actions = actions.saturating_add(1);
-        }
-    }
-    println!(rt, "")?;
-    let encoder = outcome.seconds;
-    let brake = actions.saturating_mul(2);
+    let seconds = outcome.seconds;
     println!(
         rt,
-        "                {encoder} encoder contents, {brake} brake contents (B)"
+        "  put           {seconds} seconds whole, an encoder block each"
     )?;
+    print_brake_actions(rt, shift, seconds)?;
     if outcome.answer.is_ok() {
         println!(rt, "  ended         with a flush")?;
-    } else if outcome.seconds < shift.seconds {
-        println!(rt, "  ended         power lost in second {encoder}")?;
+    } else if seconds < shift.seconds {
+        println!(rt, "  ended         power lost in second {seconds}")?;
     } else {
         println!(rt, "  ended         power lost in the flush")?;
     }
+    Ok(())
+}
+
+// The brake actions of the first seconds.
+fn print_brake_actions(rt: &LibcRuntime, shift: Shift, seconds: u32) -> Result<(), AnyError> {
+    print!(rt, "                two brake blocks in seconds")?;
+    let mut actions = 0u32;
+    for second in 0..seconds {
+        if shift.brakes_at(second) {
+            if actions < LISTED {
+                print!(rt, " {second}")?;
+            }
+            actions = actions.saturating_add(1);
+        }
+    }
+    if actions > LISTED {
+        let more = actions - LISTED;
+        print!(rt, " and {more} more")?;
+    } else if actions == 0 {
+        print!(rt, " (none)")?;
+    }
+    println!(rt, "")?;
     Ok(())
 }
 

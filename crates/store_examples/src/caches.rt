@@ -1,4 +1,4 @@
-// The caches over a flat medium: what waits in them, and what they put down, in which order.
+// The caches over a flat medium: what waits in them, and what they write back, in which order.
 use crate::calls::*;
 use crate::filled;
 use crate::memory::blocks;
@@ -15,19 +15,6 @@ use table_cache::TableStore;
 fn table_has_no_block_past_the_last(rt: LibcRuntime) -> Result<(), Fail> {
     for grant in [GRANT, 0] {
         let mut cache = table(rt.alloc(), flat(rt.alloc(), &[1, 2], grant)?)?;
-        block_answers(&mut cache, 2, NO_SUCH_BLOCK)?;
-        check_eq(cache.pending(), 0)?;
-        let medium = cache.into_below();
-        check_eq(medium.grant(), grant)?;
-        check_eq(medium.into_memory(), blocks(rt.alloc(), &[1, 2])?)?;
-    }
-    Ok(())
-}
-
-#[test]
-fn queue_has_no_block_past_the_last(rt: LibcRuntime) -> Result<(), Fail> {
-    for grant in [GRANT, 0] {
-        let mut cache = queue(rt.alloc(), flat(rt.alloc(), &[1, 2], grant)?)?;
         block_answers(&mut cache, 2, NO_SUCH_BLOCK)?;
         check_eq(cache.pending(), 0)?;
         let medium = cache.into_below();

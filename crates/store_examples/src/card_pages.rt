@@ -40,23 +40,6 @@ fn a_block_shows_its_first_page(rt: LibcRuntime) -> Result<(), Fail> {
     check_eq(card.read_block(1)?, filled(10))
 }
 
-// The page taken is the block's own second one.
-#[test]
-fn a_put_takes_a_page_that_is_not_shown(rt: LibcRuntime) -> Result<(), Fail> {
-    let mut card = worn_card(rt.alloc())?;
-    card.put_block(1, &filled(20))?;
-    check_eq(card.read_block(0)?, filled(13))?;
-    check_eq(card.read_block(1)?, filled(20))?;
-    let after = [
-        free(10),
-        owned(1, 20),
-        owned(9, 12),
-        owned(0, 13),
-        owned(0, 14),
-    ];
-    check_eq(card.into_memory(), pages(rt.alloc(), &after)?)
-}
-
 // The page taken is the other block's second one.
 #[test]
 fn a_put_frees_every_other_page_of_the_block(rt: LibcRuntime) -> Result<(), Fail> {

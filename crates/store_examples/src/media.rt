@@ -44,20 +44,6 @@ fn flat_has_no_block_past_the_last(rt: LibcRuntime) -> Result<(), Fail> {
     Ok(())
 }
 
-// Not even where a page has that owner.
-#[test]
-fn card_has_no_block_past_the_last(rt: LibcRuntime) -> Result<(), Fail> {
-    let before = [owned(2, 1), owned(1, 2), free(3)];
-    for grant in [5, 0] {
-        let mut card = card(rt.alloc(), 2, &before, grant)?;
-        block_answers(&mut card, 2, NO_SUCH_BLOCK)?;
-        block_answers(&mut card, 0xffff_ffff, NO_SUCH_BLOCK)?;
-        check_eq(card.grant(), grant)?;
-        check_eq(card.into_memory(), pages(rt.alloc(), &before)?)?;
-    }
-    Ok(())
-}
-
 // The put that takes the last of the grant answers that power is lost, and yet its content is there.
 #[test]
 fn flat_makes_its_last_store(rt: LibcRuntime) -> Result<(), Fail> {
