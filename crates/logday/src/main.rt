@@ -1,12 +1,11 @@
 // Records a shift on a flash card under a queue cache under a table cache: once with power to the end, and once with
 // the power going after a given number of block stores. Prints what was put, stored, held and found on the card.
-mod options;
 mod report;
 
 use flash_card::CardStore;
 use flash_card::FlashCard;
-use options::Options;
-use options::USAGE;
+use logday_options::Options;
+use logday_options::USAGE;
 use queue_cache::QueueCache;
 use queue_cache::QueueStore;
 use report::print_medium;

@@ -1,4 +1,4 @@
-// What the command line asks for.
+// What the command line of logday asks for.
 ghost use mathlib.Core.Path.{_≡_};
 ghost use Prim.Native.Nat.{_≤_};
 ghost use Rattle.std.specs.Slices.{found};
