@@ -1,4 +1,6 @@
 // What the caches have in common: an entry, and how one is written back to the store below.
+#![tactic(auto)]
+
 ghost use Rattle.std.specs.Prelude.{◌≡◌};
 ghost use Rattle.store.specs.Steps.{stepped};
 ghost use Rattle.cache.specs.WriteBack.{write_back};

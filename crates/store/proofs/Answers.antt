@@ -1,5 +1,5 @@
 -- An answer from its number.
-use Rattle.std.proofs.Common.{◌≡◌, ℕ, Ok, Err, refl, arith}
+use Rattle.std.proofs.Common.{◌≡◌, Ok, Err, refl, arith}
 use Rattle.store.specs.declared.StoreError.TheVariants.{PowerOff, NoSuchBlock}
 use Rattle.store.specs.Steps.{Answer, number}
 

@@ -1,5 +1,5 @@
 -- What a store means: its block count, how many block stores the medium will still make, and a line of contents for each block.
-use Rattle.std.specs.Prelude.{◌≡◌, ℕ, zero, suc, ◌+◌, ◌<◌, ◌≤◌, Bool, cond, ◌⊎◌, List, [], ◌∷◌, ◌++◌, length, ◌==◌}
+use Rattle.std.specs.Prelude.{◌≡◌, ℕ, zero, suc, ◌+◌, ◌<◌, ◌≤◌, cond, ◌⊎◌, List, [], ◌∷◌, ◌++◌, length, ◌==◌}
 use Rattle.store.specs.Steps.{Content}
 
 -- the contents of one block, oldest first: the first stands on the medium, the last is what reading shows

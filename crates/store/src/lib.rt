@@ -1,4 +1,6 @@
 // A store of 512-byte blocks: what each call answers and leaves, and what every store keeps.
+#![tactic(auto)]
+
 ghost use Rattle.std.specs.Prelude.{◌≡◌};
 ghost use Rattle.store.specs.Steps.{Steps, stepped, number, if_power, admitted};
 ghost use Rattle.store.specs.Meaning.{Meaning};

@@ -8,7 +8,7 @@ returns c =
     let xs = c.args.bytes.now in
     record {
       items =
-          put_part v.items xs c.deref-mut.result.now c.copy-from-slice.new.self c.args.at ((c.args.at + length xs) - c.args.at) v.len
-          (sym v.ok.0) c.requires (omega arith) c.deref-mut.ensures.value c.copy-from-slice.ensures.after;
+          put_part v.items xs c.deref_mut.result.now c.copy_from_slice.new.self c.args.at ((c.args.at + length xs) - c.args.at) v.len
+          (sym v.ok.0) c.requires (omega arith) c.deref_mut.ensures.value c.copy_from_slice.ensures.after;
       len = refl;
     }
