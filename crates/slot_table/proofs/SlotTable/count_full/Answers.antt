@@ -1,7 +1,7 @@
 use Rattle.std.proofs.Common.{◌≡◌, ℕ, ◌+◌, ◌<◌, ◌≤◌, true, false, cond, length, drop, is_some, sym, ap, ◌∙◌, arith}
 use Rattle.slot_table.specs.Slots.{full}
 use Rattle.slot_table.proofs.Slots.{full_step, full_end}
-use Rattle.slot_table.proofs.SlotTable.count_full.Goals.{then-is-some, else-is-some}
+use Rattle.slot_table.proofs.SlotTable.count_full.Goals.{then-is_some, else-is_some}
 use Rattle.slot_table.proofs.SlotTable.count_full.Goals as goal
 
 pub loop-i-preserved : goal.loop-i-preserved
@@ -13,11 +13,11 @@ loop-i-preserved c =
     let e = full_step slots i slot l c.index.ensures in
     let a = c.loop-i.invariant.0 in
     let b = c.loop-i.invariant.1 in
-    elim c.if-is-some.branch [
-      | then-is-some w ↦
+    elim c.if-is_some.branch [
+      | then-is_some w ↦
           let t : ◌≡◌ {A = ℕ} (cond (is_some slot) 1 0) 1 = ap (λ v. cond {A = ℕ} v 1 0) (sym c.is-some.ensures ∙ w.if-is-some.true) in
           (omega (arith, w.count-is), omega (arith, w.count-is))
-      | else-is-some w ↦
+      | else-is_some w ↦
           let t : ◌≡◌ {A = ℕ} (cond (is_some slot) 1 0) 0 = ap (λ v. cond {A = ℕ} v 1 0) (sym c.is-some.ensures ∙ w.if-is-some.false) in
           (omega (arith, w.count-is), omega (arith, w.count-is))
     ]

@@ -11,7 +11,7 @@ returns-then-is-none c =
 
 pub loop-i-preserved : goal.loop-i-preserved
 loop-i-preserved c =
-    let e = first_later (λ slot. not (is_some slot)) c.args.self.now.slots.items c.loop-i.i c.index.result.now (omega arith) c.index.ensures (ap not c.if-is-none.ensures) in
+    let e = first_later (λ slot. not (is_some slot)) c.args.self.now.slots.items c.loop-i.i c.index.result.now (omega arith) c.index.ensures (ap not c.if-is_none.ensures) in
     omega arith
 
 pub returns : goal.returns

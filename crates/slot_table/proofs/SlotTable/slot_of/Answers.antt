@@ -11,7 +11,7 @@ returns-then-has-block c =
 
 pub loop-i-preserved : goal.loop-i-preserved
 loop-i-preserved c =
-    let e = first_later (has_block c.args.block) c.args.self.now.slots.items c.loop-i.i c.index.result.now (omega arith) c.index.ensures (sym c.if-has-block.ensures) in
+    let e = first_later (has_block c.args.block) c.args.self.now.slots.items c.loop-i.i c.index.result.now (omega arith) c.index.ensures (sym c.if-has_block.ensures) in
     omega arith
 
 pub returns : goal.returns

@@ -13,11 +13,11 @@ returns c =
     let x = c.args.content.now in
     let ok : FlatGood m =
     record { some = s.some; few = s.few; granted = s.granted; room = let r = s.room in let l = s.memory.ok.0 in omega arith } in
-    let t = c.write-block.new.self in
+    let t = c.write_block.new.self in
     record {
       steps = search rules;
       stores = λ h g.
           subst (Stores flat c.args.block x m)
-          (sym (put_after flat m (flat_model t) c.args.block x c.write-block.result (search rules) h g))
+          (sym (put_after flat m (flat_model t) c.args.block x c.write_block.result (search rules) h g))
           (flat_stores m c.args.block x ok (search rules) h);
     }
