@@ -10,9 +10,9 @@ use Rattle.session.proofs.play.Goals as goal
 
 pub loop-call-preserved : goal.loop-call-preserved
 loop-call-preserved g c =
-    let reply = c.in-ok-reply.reply in
+    let reply = c.in_ok-reply.reply in
     let items : vec_items c.push.new.self ≡ vec_items c.loop-call.replies ++ (reply ∷ []) = search rules in
-    played_more g.S.Store.steps c.args.calls.now _ c.loop-call.call-index {w' = modeled g.S.Store.model c.reply-to.new.module} (omega arith) c.loop-call.invariant c.in-ok-reply.ensures
+    played_more g.S.Store.steps c.args.calls.now _ c.loop-call.call-index {w' = modeled g.S.Store.model c.reply_to.new.module} (omega arith) c.loop-call.invariant c.in_ok-reply.ensures
     (ap (map told_by) items ∙ map-append told_by (vec_items c.loop-call.replies) (reply ∷ []))
 
 pub returns : goal.returns

@@ -15,5 +15,5 @@ short l some few =
     (and_right (eqb (byte l 3) 0) _
     (and_right (eqb (bit_and (byte l 4) 0x3f) 0x06) _ (ap (λ (n : ℕ). eqb n 11) (get_or_past l 5 0 few))))))
 
-pub returns-in-default : goal.returns-in-default
-returns-in-default c = sym (short c.args.list.now (search rules) (search rules))
+pub returns-in_default : goal.returns-in_default
+returns-in_default c = sym (short c.args.list.now (search rules) (search rules))

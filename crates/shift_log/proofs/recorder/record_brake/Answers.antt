@@ -11,14 +11,14 @@ pub returns : goal.returns
 returns g c =
     let second = c.args.second in
     let s = g.S.Store.model c.args.store.now in
-    let e : stepped c.force-block-2.result (g.S.Store.model c.force-block-2.new.self) ≡ run g.S.Store.steps (brake_calls second) s =
-    c.force-block-2.ensures
+    let e : stepped c.force_block-2.result (g.S.Store.model c.force_block-2.new.self) ≡ run g.S.Store.steps (brake_calls second) s =
+    c.force_block-2.ensures
     ∙ ap (λ (d : Stepped (Unit {0}) g.S.Store.Model). next d (λ _ u. called g.S.Store.steps (force 11) u))
-    (c.in-ok-force-block.ensures
+    (c.in_ok-force_block.ensures
     ∙ ap (λ (d : Stepped (Unit {0}) g.S.Store.Model). next d (λ _ u. called g.S.Store.steps (force 10) u))
-    (c.in-ok-put-2.ensures
+    (c.in_ok-put-2.ensures
     ∙ ap (λ (d : Stepped (Unit {0}) g.S.Store.Model). next d (λ _ u. called g.S.Store.steps (put_record BrakePressure second) u))
-    c.in-ok-put.ensures)) in
+    c.in_ok-put.ensures)) in
     record {
       steps = e;
       forced =

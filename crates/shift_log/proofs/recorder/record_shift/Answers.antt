@@ -14,12 +14,12 @@ returns-in-Err g c =
     let s = g.S.Store.model c.args.store.now in
     let n = c.args.shift.seconds in
     let every = c.args.shift.brake_every in
-    let e : stepped (Err c.in-Err.error) (g.S.Store.model c.record-second.new.store) ≡ shift_steps steps n every s =
+    let e : stepped (Err c.in-Err.error) (g.S.Store.model c.record_second.new.store) ≡ shift_steps steps n every s =
     ap (λ (d : Stepped (Unit {0}) g.S.Store.Model). next d (λ _ u. steps.flush u))
-    (stops _ _ c.loop-second.second n c.loop-second-test.true c.loop-second.invariant c.record-second.ensures c.in-Err.is) in
+    (stops _ _ c.loop-second.second n c.loop-second-test.true c.loop-second.invariant c.record_second.ensures c.in-Err.is) in
     record {
       steps = e;
-      seconds = sym (recorded_until steps every s c.loop-second.second n c.loop-second-test.true c.loop-second.invariant c.record-second.ensures c.in-Err.is);
+      seconds = sym (recorded_until steps every s c.loop-second.second n c.loop-second-test.true c.loop-second.invariant c.record_second.ensures c.in-Err.is);
       recorded = λ h p.
           subst (λ (d : Stepped (Unit {0}) g.S.Store.Model). Outcomes n every d.answer (g.S.Store.meaning s) (g.S.Store.meaning d.after)) (sym e)
           (shift_recorded steps g.S.Store.meaning g.S.Store.good g.met.S.Store.keeps s (g.met.S.Store.valid c.args.store.now) every h n p);
@@ -31,7 +31,7 @@ loop-second-init g c = refl
 
 pub loop-second-preserved : goal.loop-second-preserved
 unfolding seconds_steps
-loop-second-preserved g c = goes_on _ _ c.loop-second.second c.loop-second.invariant c.record-second.ensures c.in-default.is
+loop-second-preserved g c = goes_on _ _ c.loop-second.second c.loop-second.invariant c.record_second.ensures c.in_default.is
 
 pub returns : goal.returns
 returns g c =

@@ -15,10 +15,10 @@ loop-i-preserved c =
     let b = c.loop-i.invariant.1 in
     elim c.if-is_some.branch [
       | then-is_some w ↦
-          let t : ◌≡◌ {A = ℕ} (cond (is_some slot) 1 0) 1 = ap (λ v. cond {A = ℕ} v 1 0) (sym c.is-some.ensures ∙ w.if-is-some.true) in
+          let t : ◌≡◌ {A = ℕ} (cond (is_some slot) 1 0) 1 = ap (λ v. cond {A = ℕ} v 1 0) (sym c.is_some.ensures ∙ w.if-is_some.true) in
           (omega (arith, w.count-is), omega (arith, w.count-is))
       | else-is_some w ↦
-          let t : ◌≡◌ {A = ℕ} (cond (is_some slot) 1 0) 0 = ap (λ v. cond {A = ℕ} v 1 0) (sym c.is-some.ensures ∙ w.if-is-some.false) in
+          let t : ◌≡◌ {A = ℕ} (cond (is_some slot) 1 0) 0 = ap (λ v. cond {A = ℕ} v 1 0) (sym c.is_some.ensures ∙ w.if-is_some.false) in
           (omega (arith, w.count-is), omega (arith, w.count-is))
     ]
 

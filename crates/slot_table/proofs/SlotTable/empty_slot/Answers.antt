@@ -4,9 +4,9 @@ use Rattle.store.proofs.Places.{below_is, below_past}
 use Rattle.slot_table.proofs.Slots.{first_here, first_later, first_none}
 use Rattle.slot_table.proofs.SlotTable.empty_slot.Goals as goal
 
-pub returns-then-is-none : goal.returns-then-is-none
-returns-then-is-none c =
-    let e = first_here (λ slot. not (is_some slot)) c.args.self.now.slots.items c.loop-i.i c.index.result.now (omega arith) c.index.ensures (ap not c.if-is-none.ensures) in
+pub returns-then-is_none : goal.returns-then-is_none
+returns-then-is_none c =
+    let e = first_here (λ slot. not (is_some slot)) c.args.self.now.slots.items c.loop-i.i c.index.result.now (omega arith) c.index.ensures (ap not c.if-is_none.ensures) in
     below_is (length c.args.self.now.slots.items) c.loop-i.i (empty_slot c.args.self.now.slots.items) (omega arith) (omega arith)
 
 pub loop-i-preserved : goal.loop-i-preserved

@@ -6,7 +6,7 @@ use Rattle.store_examples.proofs.memory.blocks.Goals as goal
 
 pub loop-byte-preserved : goal.loop-byte-preserved
 loop-byte-preserved c =
-    rw (c.in-ok-extend-from-slice.ensures.items, c.filled.ensures, c.loop-byte.invariant)
+    rw (c.in_ok-extend_from_slice.ensures.items, c.filled.ensures, c.loop-byte.invariant)
     (sym (fold_more with_block [] c.args.bytes.now c.loop-byte.byte-index 0 (omega arith)))
 
 pub returns : goal.returns

@@ -6,8 +6,8 @@ use Rattle.store_examples.proofs.memory.pages.Goals as goal
 
 pub loop-page-preserved : goal.loop-page-preserved
 loop-page-preserved c =
-    rw (c.in-ok-extend-from-slice-2.ensures.items, c.filled.ensures)
-    (rw (c.in-ok-extend-from-slice.ensures.items, c.to-be-bytes.ensures, c.loop-page.invariant)
+    rw (c.in_ok-extend_from_slice-2.ensures.items, c.filled.ensures)
+    (rw (c.in_ok-extend_from_slice.ensures.items, c.to_be_bytes.ensures, c.loop-page.invariant)
     (sym (fold_more with_page [] c.args.pages.now c.loop-page.page-index (record { owner = 0; byte = 0 }) (omega arith))))
 
 pub returns : goal.returns

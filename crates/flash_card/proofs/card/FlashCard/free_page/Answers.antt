@@ -13,16 +13,16 @@ test s n k = free s.pages.memory.items s.count (round n (s.hand + k))
 inside : (s : FlashCard) (r : ℕ) → r ≡ free_page (card_model s) → r < s.pages.memory.len / 516
 inside s r e = let l = s.pages.memory.ok.0 in let f = free_in (card_model s) (card_good s) in omega arith
 
-pub returns-then-is-free : goal.returns-then-is-free
+pub returns-then-is_free : goal.returns-then-is_free
 unfolding test
-returns-then-is-free c =
+returns-then-is_free c =
     let s = c.args.self.now in
     let n = c.count-n.result in
     let k = c.loop-k.k in
     let page : c.round-page.result ≡ free_page (card_model s) =
     c.round-page.ensures
     ∙ free_page_is (card_model s) n k c.count-n.ensures
-    (c.loop-k.invariant ∙ first_hit (test s n) n k (omega arith) (sym (c.if-is-free.ensures ∙ ap (free s.pages.memory.items s.count) c.round-page.ensures))) in
+    (c.loop-k.invariant ∙ first_hit (test s n) n k (omega arith) (sym (c.if-is_free.ensures ∙ ap (free s.pages.memory.items s.count) c.round-page.ensures))) in
     record { within = inside s c.round-page.result page; page = page }
 
 pub loop-k-preserved : goal.loop-k-preserved
@@ -31,7 +31,7 @@ loop-k-preserved c =
     let s = c.args.self.now in
     let n = c.count-n.result in
     c.loop-k.invariant
-    ∙ first_miss (test s n) n c.loop-k.k (omega arith) (sym (c.if-is-free.ensures ∙ ap (free s.pages.memory.items s.count) c.round-page.ensures))
+    ∙ first_miss (test s n) n c.loop-k.k (omega arith) (sym (c.if-is_free.ensures ∙ ap (free s.pages.memory.items s.count) c.round-page.ensures))
 
 pub returns : goal.returns
 unfolding test

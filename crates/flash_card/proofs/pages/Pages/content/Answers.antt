@@ -3,4 +3,4 @@ use Rattle.flash_card.proofs.pages.Pages.content.Goals as goal
 
 pub returns : goal.returns
 unfolding page_content
-returns c = c.content-at.ensures
+returns c = c.content_at.ensures

@@ -12,8 +12,8 @@ loop-i-preserved c =
     let i = c.loop-i.i in
     let b = c.args.block in
     let n : suc i ≡ i + 1 = omega arith in (
-      c.disown-page.ensures.items
+      c.disown_page.ensures.items
           ∙ ap (λ bytes. disown bytes b c.args.taken i) c.loop-i.invariant.0
           ∙ ap (disown_first c.args.self.now.memory.items b c.args.taken) n,
-      c.disown-page.ensures.len ∙ c.loop-i.invariant.1,
+      c.disown_page.ensures.len ∙ c.loop-i.invariant.1,
     )

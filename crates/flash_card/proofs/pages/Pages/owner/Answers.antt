@@ -7,7 +7,7 @@ use Rattle.flash_card.proofs.pages.Pages.owner.Goals as goal
 pub returns : goal.returns
 unfolding owner
 returns c =
-    c.from-be-bytes.ensures
+    c.from_be_bytes.ensures
     ∙ ap from_be32
-    (cut_part c.args.self.now.memory.items c.deref.result.now c.copy-from-slice.new.self (c.args.page * 516) 4
-    c.deref.ensures.value c.copy-from-slice.ensures.after)
+    (cut_part c.args.self.now.memory.items c.deref.result.now c.copy_from_slice.new.self (c.args.page * 516) 4
+    c.deref.ensures.value c.copy_from_slice.ensures.after)

@@ -9,16 +9,16 @@ pub loop-self-preserved : goal.loop-self-preserved
 loop-self-preserved g c =
     let t = c.loop-self.self in
     c.loop-self.invariant
-    ∙ drain_next g.S.Store.steps any t.entries.items (g.S.Store.model t.below) _ refl (lt-ltb 0 (length t.entries.items) (omega arith)) c.in-ok-evict-oldest.ensures
+    ∙ drain_next g.S.Store.steps any t.entries.items (g.S.Store.model t.below) _ refl (lt-ltb 0 (length t.entries.items) (omega arith)) c.in_ok-evict_oldest.ensures
 
-pub returns-in-err-evict-oldest : goal.returns-in-err-evict-oldest
-returns-in-err-evict-oldest g c =
+pub returns-in_err-evict_oldest : goal.returns-in_err-evict_oldest
+returns-in_err-evict_oldest g c =
     let t = c.loop-self.self in
     let p = err_from_is_err_and c.from-residual.result c.from-residual.ensures.1 in
     rw (p.1, p.2)
     (sym
     (c.loop-self.invariant
-    ∙ drain_next g.S.Store.steps any t.entries.items (g.S.Store.model t.below) _ refl (lt-ltb 0 (length t.entries.items) (omega arith)) c.in-err-evict-oldest.ensures))
+    ∙ drain_next g.S.Store.steps any t.entries.items (g.S.Store.model t.below) _ refl (lt-ltb 0 (length t.entries.items) (omega arith)) c.in_err-evict_oldest.ensures))
 
 pub returns : goal.returns
 returns g c =

@@ -17,5 +17,5 @@ returns-in-Err-run g c = promised g.met.S.Store.keeps c.args.host c.args.cdb.now
 pub returns-in-UnitAttention : goal.returns-in-UnitAttention
 returns-in-UnitAttention g c = promised g.met.S.Store.keeps c.args.host c.args.cdb.now c.args.data_out.now (g.met.S.Store.valid c.args.self.now.store) (search rules)
 
-pub returns-in-default : goal.returns-in-default
-returns-in-default g c = promised g.met.S.Store.keeps c.args.host c.args.cdb.now c.args.data_out.now (g.met.S.Store.valid c.args.self.now.store) (search rules)
+pub returns-in_default : goal.returns-in_default
+returns-in_default g c = promised g.met.S.Store.keeps c.args.host c.args.cdb.now c.args.data_out.now (g.met.S.Store.valid c.args.self.now.store) (search rules)

@@ -9,8 +9,8 @@ use Rattle.slot_table.proofs.Slots.{apart_emptied, every_set}
 use Rattle.cache.proofs.Entries.{fits}
 use Rattle.table_cache.proofs.table.TableCache.evict.Goals as goal
 
-pub invariant-of-self : goal.invariant-of-self
-invariant-of-self g c =
+pub invariant_of-self : goal.invariant_of-self
+invariant_of-self g c =
     let s = c.args.self.now in
     let e = c.take-entry.ensures.after in (
       s.eight,

@@ -9,9 +9,9 @@ loop-i-init g c = refl
 
 pub loop-i-preserved : goal.loop-i-preserved
 unfolding evict_first
-loop-i-preserved g c = goes_on _ _ c.loop-i.i c.loop-i.invariant c.evict.ensures c.in-ok-evict.was
+loop-i-preserved g c = goes_on _ _ c.loop-i.i c.loop-i.invariant c.evict.ensures c.in_ok-evict.was
 
-pub returns-in-err-evict : goal.returns-in-err-evict
+pub returns-in_err-evict : goal.returns-in_err-evict
 unfolding evict_first
-returns-in-err-evict g c =
-    let h = stops _ _ c.loop-i.i 8 (omega arith) c.loop-i.invariant c.evict.ensures c.in-err-evict.was in search rules
+returns-in_err-evict g c =
+    let h = stops _ _ c.loop-i.i 8 (omega arith) c.loop-i.invariant c.evict.ensures c.in_err-evict.was in search rules

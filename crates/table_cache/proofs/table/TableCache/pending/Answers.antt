@@ -9,6 +9,6 @@ returns g c =
     let s = c.args.self.now in
     let m = g.S.Store.meaning (g.S.Store.model s.below) in
     record {
-      value = c.count-full.ensures;
-      held = λ w p. held_over m (full s.table.slots.items) w p ∙ ap (λ n. held m + n) (sym c.count-full.ensures);
+      value = c.count_full.ensures;
+      held = λ w p. held_over m (full s.table.slots.items) w p ∙ ap (λ n. held m + n) (sym c.count_full.ensures);
     }

@@ -8,8 +8,8 @@ use Rattle.cache.proofs.Entries.{fits, fits_from}
 use Rattle.table_cache.proofs.table.TableCache.put.Goals.{then-hand-lt7, else-hand-lt7}
 use Rattle.table_cache.proofs.table.TableCache.put.Goals as goal
 
-pub invariant-of-self : goal.invariant-of-self
-invariant-of-self g c =
+pub invariant_of-self : goal.invariant_of-self
+invariant_of-self g c =
     let s = c.args.self.now in
     let slots = s.table.slots.items in
     let e = c.args.entry in
@@ -23,16 +23,16 @@ invariant-of-self g c =
       ),
     )
 
-pub invariant-of-self-2 : goal.invariant-of-self-2
-invariant-of-self-2 g c =
+pub invariant_of-self-2 : goal.invariant_of-self-2
+invariant_of-self-2 g c =
     let s = c.args.self.now in
     let slots = s.table.slots.items in
     let hand = s.table.hand in
     let u = c.evict.new.self in
     let e = c.args.entry in
-    let p = below_none (length slots) (place_for slots e.block) c.in-default.ensures in
+    let p = below_none (length slots) (place_for slots e.block) c.in_default.ensures in
     let v : u.table.slots.items ≡ set slots hand None =
-    ap (λ (q : Stepped (Unit {0}) (TableModel g.S.Store.Model)). q.after.slots) c.in-ok-evict.ensures in
+    ap (λ (q : Stepped (Unit {0}) (TableModel g.S.Store.Model)). q.after.slots) c.in_ok-evict.ensures in
     let l : hand < length u.table.slots.items = omega (arith, u.table.slots.ok.0, u.eight, s.round) in
     let ready : Ready (found u.table.slots.items e.block) e.block (get_or u.table.slots.items hand None) =
     subst (λ (slots : Slots). Ready (found slots e.block) e.block (get_or slots hand None)) (sym v)

@@ -16,6 +16,6 @@ returns c =
       steps = search rules;
       stores = λ h g.
           subst (PutPages c.args.block x m)
-          (sym (put_after card m (card_model c.write-block.new.self) c.args.block x c.write-block.result (search rules) h g))
+          (sym (put_after card m (card_model c.write_block.new.self) c.args.block x c.write_block.result (search rules) h g))
           (card_put_pages m c.args.block x (card_good s) (search rules) h);
     }
