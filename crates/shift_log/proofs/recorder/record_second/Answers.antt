@@ -9,7 +9,7 @@ use Rattle.shift_log.proofs.recorder.record_second.Goals as goal
 
 pub returns-in_err-put : goal.returns-in_err-put
 returns-in_err-put g c =
-    let p = err_from_is_err_and c.from-residual.result c.from-residual.ensures.1 in
+    let p = err_from_is_err_and c.from_residual.result c.from_residual.ensures.1 in
     let calls = cond (brakes_at c.args.shift.brake_every c.args.second) (brake_calls c.args.second) [] in
     rw (p.1, p.2)
     (sym (run_failed g.S.Store.steps calls c.in_err-put.field-0.0 (g.S.Store.model c.put.new.store))

@@ -14,7 +14,7 @@ loop-self-preserved g c =
 pub returns-in_err-evict_oldest : goal.returns-in_err-evict_oldest
 returns-in_err-evict_oldest g c =
     let t = c.loop-self.self in
-    let p = err_from_is_err_and c.from-residual.result c.from-residual.ensures.1 in
+    let p = err_from_is_err_and c.from_residual.result c.from_residual.ensures.1 in
     rw (p.1, p.2)
     (sym
     (c.loop-self.invariant

@@ -28,10 +28,9 @@ invariant_of-self g c =
             s.few,
           )
       | else-len-ge-PLACES w ↦ omega (arith, ap (λ (v : QueueCache g.row.S.Denot). v.entries.len) w.self-is, w.if-len-ge-PLACES.false)
-    ] in (
-      omega (arith, p.ensures.len),
-      (
-        omega (arith, p.ensures.capacity, t.roomy),
-        (rw p.ensures.items (every_push fits t.entries.items e t.fits (fits_from e (omega arith))), tt),
-      ),
-    )
+    ] in
+    record {
+      few = omega (arith, p.ensures.len);
+      roomy = omega (arith, p.ensures.capacity, t.roomy);
+      fits = rw p.ensures.items (every_push fits t.entries.items e t.fits (fits_from e (omega arith)));
+    }
