@@ -12,13 +12,13 @@ use Rattle.table_cache.proofs.table.TableCache.evict.Goals as goal
 pub invariant_of-self : goal.invariant_of-self
 invariant_of-self g c =
     let s = c.args.self.now in
-    let e = c.take-entry.ensures.after in (
-      s.eight,
-      (
-        rw e (apart_emptied s.table.slots.items c.args.i s.apart),
-        (rw e (every_set fits s.table.slots.items c.args.i None s.fits refl), (s.round, tt)),
-      ),
-    )
+    let e = c.take-entry.ensures.after in
+    record {
+      eight = s.eight;
+      apart = rw e (apart_emptied s.table.slots.items c.args.i s.apart);
+      fits = rw e (every_set fits s.table.slots.items c.args.i None s.fits refl);
+      round = s.round;
+    }
 
 pub returns : goal.returns
 returns g c =

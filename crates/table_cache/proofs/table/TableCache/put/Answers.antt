@@ -15,13 +15,13 @@ invariant_of-self g c =
     let e = c.args.entry in
     let i = c.in-Some.place in
     let at = below_some (length slots) i (place_for slots e.block) c.in-Some.ensures in
-    let l : i < length slots = let a = at.0 in let b = at.1 in omega arith in (
-      s.eight,
-      (
-        apart_joined slots i e l s.apart (rw at.0 (place_ready slots e.block)),
-        (every_set fits slots i (Some e) s.fits (fits_from e (omega arith)), (s.round, tt)),
-      ),
-    )
+    let l : i < length slots = let a = at.0 in let b = at.1 in omega arith in
+    record {
+      eight = s.eight;
+      apart = apart_joined slots i e l s.apart (rw at.0 (place_ready slots e.block));
+      fits = every_set fits slots i (Some e) s.fits (fits_from e (omega arith));
+      round = s.round;
+    }
 
 pub invariant_of-self-2 : goal.invariant_of-self-2
 invariant_of-self-2 g c =
@@ -36,13 +36,10 @@ invariant_of-self-2 g c =
     let l : hand < length u.table.slots.items = omega (arith, u.table.slots.ok.0, u.eight, s.round) in
     let ready : Ready (found u.table.slots.items e.block) e.block (get_or u.table.slots.items hand None) =
     subst (λ (slots : Slots). Ready (found slots e.block) e.block (get_or slots hand None)) (sym v)
-    (emptied_ready slots hand e.block s.apart (placeless slots e.block p)) in (
-      u.eight,
-      (
-        apart_joined u.table.slots.items hand e l u.apart ready,
-        (
-          every_set fits u.table.slots.items hand (Some e) u.fits (fits_from e (omega arith)),
-          (elim c.if-hand-lt7.branch [ then-hand-lt7 w ↦ omega (arith, w.self-is, w.if-hand-lt7.true) | else-hand-lt7 w ↦ omega (arith, w.self-is) ], tt),
-        ),
-      ),
-    )
+    (emptied_ready slots hand e.block s.apart (placeless slots e.block p)) in
+    record {
+      eight = u.eight;
+      apart = apart_joined u.table.slots.items hand e l u.apart ready;
+      fits = every_set fits u.table.slots.items hand (Some e) u.fits (fits_from e (omega arith));
+      round = elim c.if-hand-lt7.branch [ then-hand-lt7 w ↦ omega (arith, w.self-is, w.if-hand-lt7.true) | else-hand-lt7 w ↦ omega (arith, w.self-is) ];
+    }
