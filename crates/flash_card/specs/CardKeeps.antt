@@ -11,7 +11,7 @@ use Rattle.store.specs.Keeps.{Keeps}
 use Rattle.store.proofs.Bytes.{length_part}
 use Rattle.medium.specs.Medium.{Stores, medium_steps, medium_meaning}
 use Rattle.medium.proofs.MediumKeeps.{medium_keeps}
-use Rattle.flash_card.specs.Card.{CardModel, CardGood, card, pages, owner, page_content, nobody, first_from, first_page, free, round, skipped, free_page, zeros, shown, card_put}
+use Rattle.flash_card.specs.Card.{CardModel, CardGood, card, pages, owner, page_content, nobody, first_from, first_page, free, round, free_page, zeros, shown, card_put}
 use Rattle.flash_card.specs.PageLaw.{PutPages}
 use Rattle.flash_card.specs.Search.{first_within, first_passes, first_least, first_is, first_none, pigeons}
 use Rattle.flash_card.specs.PageWrites.{length_after, owner_after, others_after, content_after, contents_after, past_after}

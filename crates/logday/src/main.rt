@@ -1,5 +1,7 @@
 // Records a shift on a flash card under a queue cache under a table cache: once with power to the end, and once with
 // the power going after a given number of block stores. Prints what was put, stored, held and found on the card.
+#![tactic(auto)]
+
 mod report;
 
 use anyhow::anyhow;

@@ -1,4 +1,6 @@
 // What the command line of logday asks for.
+#![tactic(auto)]
+
 ghost use Rattle.std.specs.Prelude.{◌≡◌, ◌≤◌, IfSome, IfOk, None, Ok};
 
 use anyhow::anyhow;

@@ -1,9 +1,9 @@
 -- A medium whose stores show what they should keeps a store's meaning.
-use Rattle.std.proofs.Common.{◌≡◌, ℕ, zero, suc, ◌-◌, ◌<◌, ◌≤◌, true, false, cond, eqb, ltb, [], ◌∷◌, length, Ok, Err, sym, refl, ap, ◌∙◌, inl, inr, arith}
+use Rattle.std.proofs.Common.{◌≡◌, ℕ, zero, suc, ◌-◌, ◌<◌, ◌≤◌, true, false, cond, eqb, ltb, [], ◌∷◌, length, Ok, Err, refl, ap, ◌∙◌, inl, inr, arith}
 use Rattle.std.proofs.lemmas.Bool.{cond-true, cond-false, lt-ltb, le-ltb}
 use Rattle.store.specs.declared.StoreError.TheVariants.{PowerOff, NoSuchBlock}
 use Rattle.store.specs.Steps.{Content, Answer, Stepped, stepped, number, next, if_power}
-use Rattle.store.specs.Meaning.{Meaning, sum_below, added, Thins, Survives, Sound}
+use Rattle.store.specs.Meaning.{Meaning, sum_below, added, Thins, Survives}
 use Rattle.store.specs.Meaning.Thinned.{none, keep, strike}
 use Rattle.store.specs.Keeps.{Moves, Keeps}
 use Rattle.store.proofs.Lines.{thins_refl}

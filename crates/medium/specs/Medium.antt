@@ -1,5 +1,5 @@
 -- A medium: each block has the one content that stands there, a put is one store, and force and flush do nothing.
-use Rattle.std.specs.Prelude.{◌≡◌, ℕ, ◌-◌, ◌<◌, ◌≤◌, cond, [], length, Ok, ◌==◌, nat_lt}
+use Rattle.std.specs.Prelude.{◌≡◌, ℕ, ◌-◌, ◌<◌, ◌≤◌, cond, [], Ok, ◌==◌, nat_lt}
 use Rattle.store.specs.Steps.{Content, Answer, Steps, stepped, if_power, guarding}
 use Rattle.store.specs.Meaning.{Meaning}
 

@@ -1,4 +1,6 @@
 // What the media have in common: the check before one is made, the parts of its memory, and the grant of stores.
+#![tactic(auto)]
+
 ghost use Rattle.std.specs.Prelude.{◌≡◌};
 ghost use Rattle.medium.specs.Check.{check_number};
 

@@ -1,5 +1,5 @@
 -- The places hold only blocks below the count.
-use Rattle.std.proofs.Common.{◌≡◌, ℕ, ◌<◌, Bool, true, cond, ltb, List, [], ◌∷◌, ◌++◌, length, Some, None, Ok, refl, arith}
+use Rattle.std.proofs.Common.{◌≡◌, ℕ, ◌<◌, Bool, cond, ltb, List, [], ◌∷◌, ◌++◌, length, Some, None, Ok, refl, arith}
 use Rattle.std.proofs.lemmas.Bool.{cond_both, lt-ltb}
 use Rattle.store.specs.Steps.{Content, Steps, Stepped, stepped, next}
 use Rattle.store.specs.Meaning.{Meaning}

@@ -1,14 +1,14 @@
 -- What a list of calls does to a store that keeps the law.
-use Rattle.std.proofs.Common.{◌≡◌, ℕ, ◌+◌, ◌<◌, ◌≤◌, true, false, cond, eqb, ◌⊎◌, List, [], ◌∷◌, ◌++◌, length, Ok, Err, sym, refl, ap, ◌∙◌, subst, ap₂, inl, inr, ⊎_elim, append_assoc, append-nil, add-zero, add_assoc, arith}
+use Rattle.std.proofs.Common.{◌≡◌, ℕ, ◌+◌, ◌<◌, true, false, cond, eqb, ◌⊎◌, List, [], ◌∷◌, length, Ok, Err, sym, refl, ap, ◌∙◌, subst, ap₂, ⊎_elim, append_assoc, append-nil, add-zero, add_assoc, arith}
 use Rattle.store.specs.declared.StoreError.{StoreError}
 use Rattle.std.proofs.lemmas.Bool.{ne_eqb}
 use Rattle.store.specs.Steps.{Content, Answer, Steps, Stepped, stepped, next}
-use Rattle.store.specs.Meaning.{Meaning, Line, followed, extended, added, last_of, newest, Thins, Survives, Thinned}
+use Rattle.store.specs.Meaning.{Meaning, Line, followed, extended, added, last_of, newest, Thins, Thinned}
 use Rattle.store.specs.Keeps.{Keeps, Moves}
 use Rattle.store.proofs.Lines.{added_thins, added_survives, last_append, thinned_length}
 use Rattle.store.proofs.Moving.{moves_both, next_keeps, stays}
 use Rattle.store.proofs.Guards.{same_refl}
-use Rattle.shift_log.specs.Recording.{Call, called, then_run, run, put_to, puts}
+use Rattle.shift_log.specs.Recording.{Call, then_run, run, put_to, puts}
 use Rattle.shift_log.specs.Recording.Call.{put, force}
 
 -- the same call, with lines that are the same, and with other blocks known to be clean

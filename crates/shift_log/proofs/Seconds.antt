@@ -1,7 +1,7 @@
 -- How many seconds are recorded whole.
-use Rattle.std.proofs.Common.{◌≡◌, ℕ, zero, suc, ◌+◌, ◌-◌, ◌<◌, ◌≤◌, Ok, Err, sym, refl, ap, ◌∙◌, suc-add, zero-add, arith}
+use Rattle.std.proofs.Common.{◌≡◌, ℕ, zero, suc, ◌+◌, ◌-◌, ◌<◌, Ok, Err, sym, refl, ap, ◌∙◌, suc-add, zero-add, arith}
 use Rattle.store.specs.declared.StoreError.{StoreError}
-use Rattle.store.specs.Steps.{Answer, Steps, Stepped, stepped, next}
+use Rattle.store.specs.Steps.{Answer, Steps, Stepped, stepped}
 use Rattle.store.proofs.InTurn.{past, stops}
 use Rattle.shift_log.specs.Recording.{run, second_calls, seconds_steps, seconds_recorded}
 

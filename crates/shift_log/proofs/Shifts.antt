@@ -1,21 +1,20 @@
 -- What a shift leaves on a store that keeps the law.
-use Rattle.std.proofs.Common.{◌≡◌, ℕ, zero, suc, ◌+◌, ◌%◌, ◌<◌, ◌≤◌, ◌⊎◌, List, [], ◌∷◌, ◌++◌, length, Ok, Err, sym, refl, ap, ◌∙◌, subst, inl, inr, ⊎_elim, append_assoc, append-nil, add-zero, arith}
+use Rattle.std.proofs.Common.{◌≡◌, ℕ, zero, suc, ◌+◌, ◌<◌, ◌≤◌, List, [], ◌∷◌, ◌++◌, length, Ok, Err, refl, ap, ◌∙◌, subst, inl, inr, ⊎_elim, append_assoc, append-nil, arith}
 use Rattle.store.specs.declared.StoreError.TheVariants.{PowerOff}
 use Rattle.std.proofs.lemmas.Bool.{cond_both, cases_lt}
-use Rattle.store.specs.Steps.{Content, Answer, Steps, Stepped, stepped, next, number}
-use Rattle.store.specs.Meaning.{Meaning, Line, followed, contents, Thins, Survives}
+use Rattle.store.specs.Steps.{Content, Answer, Steps, Stepped, stepped, number}
+use Rattle.store.specs.Meaning.{Meaning, Line, followed, Thins, Survives}
 use Rattle.store.specs.Keeps.{Keeps, Moves}
 use Rattle.store.proofs.Answers.{lost_answer}
 use Rattle.store.proofs.Lines.{thins_followed, survives_followed}
 use Rattle.store.proofs.Moving.{moves_both, next_keeps, stays}
 use Rattle.store.proofs.Guards.{same_refl}
-use Rattle.shift_log.specs.declared.record.Kind.{Kind}
 use Rattle.shift_log.specs.declared.record.Kind.TheVariants.{Encoder, BrakeCommand, BrakePressure}
 use Rattle.shift_log.specs.declared.record.Record.{Record}
 use Rattle.shift_log.specs.Records.{brakes_at, encoded}
 use Rattle.shift_log.specs.Recording.{Call, then_run, run, put_to, puts, put_record, brake_calls, second_calls, seconds_steps, shift_steps, shift_put_to, shift_puts}
 use Rattle.shift_log.specs.Recording.Call.{force}
-use Rattle.shift_log.specs.Recorded.{BrakeOnMedium, Outcomes, Recorded}
+use Rattle.shift_log.specs.Recorded.{BrakeOnMedium, Outcomes}
 use Rattle.shift_log.proofs.Runs.{moves_as, cleaned, Fitting, run_failed, run_good, run_moves, line_clean}
 
 length_encoded : (r : Record) → length (encoded r) ≡ 512

@@ -1,5 +1,7 @@
 // Records a shift of the cable car on any store: an encoder block each second, two blocks for each brake action,
 // which are forced to the medium, and a flush at the end.
+#![tactic(auto)]
+
 pub mod record;
 pub mod recorder;
 pub mod shift;

@@ -1,6 +1,6 @@
 -- The table cache keeps a store's meaning over every store that does.
 use Rattle.std.specs.Prelude.{◌≡◌, ℕ, zero, suc, ◌<◌, ◌≤◌, false, [], ◌∷◌, length, set, Some, None, Ok, Option, ◌==◌, nat_lt, slice_index_or, slice_set, refl}
-use Rattle.std.proofs.Common.{sym, ◌∙◌, ap, subst, length-set}
+use Rattle.std.proofs.Common.{sym, ◌∙◌, ap, length-set}
 use Rattle.std.proofs.Math.Logic.{⊎_elim}
 use native.Mathlib.Omega.{arith}
 use Rattle.std.proofs.lemmas.Bool.{cond_both, cond-true, eq-eqb, ltb-true, ltb-false, cases_lt}

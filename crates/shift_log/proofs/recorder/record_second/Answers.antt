@@ -1,6 +1,6 @@
-use Rattle.std.proofs.Common.{Bool, cond, [], Ok, sym, ap, ◌∙◌}
+use Rattle.std.proofs.Common.{Bool, cond, [], sym, ap, ◌∙◌}
 use Rattle.std.proofs.lemmas.Result.{err_from_is_err_and}
-use Rattle.store.specs.Steps.{Stepped, stepped}
+use Rattle.store.specs.Steps.{Stepped}
 use Rattle.shift_log.specs.Records.{brakes_at}
 use Rattle.shift_log.specs.Recording.{called, then_run, put_record, brake_calls}
 use Rattle.shift_log.specs.declared.record.Kind.TheVariants.{Encoder}

@@ -1,5 +1,4 @@
-use Rattle.std.proofs.Common.{◌≡◌, ℕ, ◌+◌, ◌<◌, ◌≤◌, true, false, cond, length, drop, is_some, sym, ap, ◌∙◌, arith}
-use Rattle.slot_table.specs.Slots.{full}
+use Rattle.std.proofs.Common.{◌≡◌, ℕ, ◌<◌, cond, length, is_some, sym, ap, ◌∙◌, arith}
 use Rattle.slot_table.proofs.Slots.{full_step, full_end}
 use Rattle.slot_table.proofs.SlotTable.count_full.Goals.{then-is_some, else-is_some}
 use Rattle.slot_table.proofs.SlotTable.count_full.Goals as goal

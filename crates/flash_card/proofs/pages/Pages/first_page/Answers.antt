@@ -1,4 +1,4 @@
-use Rattle.std.proofs.Common.{eqb, sym, ◌∙◌, arith}
+use Rattle.std.proofs.Common.{eqb, ◌∙◌, arith}
 use Rattle.std.proofs.lemmas.Bool.{eq-eqb, ne_eqb}
 use Rattle.store.proofs.Places.{below_is, below_past}
 use Rattle.flash_card.specs.Card.{owner, first_page}

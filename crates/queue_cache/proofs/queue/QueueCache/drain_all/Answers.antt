@@ -1,7 +1,7 @@
 use Rattle.std.proofs.Common.{length, sym, refl, ◌∙◌, arith}
 use Rattle.std.proofs.lemmas.Result.{err_from_is_err_and}
 use Rattle.std.proofs.lemmas.Bool.{lt-ltb, le-ltb}
-use Rattle.queue_cache.specs.Queue.{queued, any}
+use Rattle.queue_cache.specs.Queue.{any}
 use Rattle.queue_cache.proofs.Draining.{drain_next, drain_done}
 use Rattle.queue_cache.proofs.queue.QueueCache.drain_all.Goals as goal
 

@@ -1,6 +1,6 @@
-use Rattle.std.proofs.Common.{length, is_some, sym, refl, ap, ◌∙◌}
+use Rattle.std.proofs.Common.{is_some, sym, refl, ap, ◌∙◌}
 use Rattle.std.proofs.lemmas.Result.{err_from_is_err_and}
-use Rattle.queue_cache.specs.Queue.{queued, holds}
+use Rattle.queue_cache.specs.Queue.{holds}
 use Rattle.queue_cache.proofs.Draining.{drain_next, drain_done}
 use Rattle.queue_cache.proofs.queue.QueueCache.drain_block.Goals as goal
 

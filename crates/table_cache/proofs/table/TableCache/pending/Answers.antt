@@ -1,4 +1,4 @@
-use Rattle.std.proofs.Common.{◌≡◌, ◌+◌, sym, ap, ◌∙◌}
+use Rattle.std.proofs.Common.{◌+◌, sym, ap, ◌∙◌}
 use Rattle.store.specs.Meaning.{held}
 use Rattle.cache.proofs.Entries.{held_over}
 use Rattle.slot_table.specs.Slots.{full}

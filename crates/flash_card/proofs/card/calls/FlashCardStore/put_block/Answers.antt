@@ -1,4 +1,4 @@
-use Rattle.std.proofs.Common.{◌≡◌, sym, subst, rules}
+use Rattle.std.proofs.Common.{sym, subst, rules}
 use Rattle.medium.proofs.MediumKeeps.{put_after}
 use Rattle.flash_card.specs.Card.{card}
 use Rattle.flash_card.specs.Modeled.{card_model}

@@ -1,4 +1,4 @@
-use Rattle.std.proofs.Common.{◌≡◌, sym, subst, arith, rules}
+use Rattle.std.proofs.Common.{sym, subst, arith, rules}
 use Rattle.medium.specs.Medium.{Stores}
 use Rattle.medium.proofs.MediumKeeps.{put_after}
 use Rattle.flat_medium.specs.Flat.{FlatGood, flat}
