@@ -4,6 +4,7 @@ use crate::memory::*;
 use crate::setup::*;
 use flash_card::FlashCard;
 use std::alloc::Global;
+use std::test::Fail;
 use store::Store;
 
 // A new card, of FFh bytes throughout, has no block's content yet.

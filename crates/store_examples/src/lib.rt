@@ -1,4 +1,6 @@
 // The stores at work on examples: the media, the pages of the flash card, the caches, and a pile of them.
+#![tactic(auto)]
+
 ghost use Rattle.std.specs.Prelude.{◌≡◌, replicate};
 
 #[cfg(test)]

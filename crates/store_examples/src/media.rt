@@ -6,6 +6,7 @@ use crate::setup::*;
 use flash_card::FlashCard;
 use flat_medium::FlatMedium;
 use medium::check_number;
+use std::test::Fail;
 use store::{Store, answer_number};
 
 #[test]
@@ -32,8 +33,8 @@ fn card_memory_is_checked(rt: HostRuntime) {
 fn flat_has_no_block_past_the_last(rt: HostRuntime) -> Result<(), Fail> {
     for grant in [5, 0] {
         let mut medium = flat(rt.alloc(), &[1, 2, 3], grant)?;
-        block_answers(&rt, &mut medium, 3, NO_SUCH_BLOCK);
-        block_answers(&rt, &mut medium, 0xffff_ffff, NO_SUCH_BLOCK);
+        block_answers(&mut medium, 3, NO_SUCH_BLOCK)?;
+        block_answers(&mut medium, 0xffff_ffff, NO_SUCH_BLOCK)?;
         assert_eq!(rt; medium.grant(), grant);
         assert_eq!(rt; medium.into_memory(), blocks(rt.alloc(), &[1, 2, 3])?);
     }
@@ -46,7 +47,7 @@ fn flat_makes_its_last_store(rt: HostRuntime) -> Result<(), Fail> {
     let mut medium = flat(rt.alloc(), &[0, 0], 1)?;
     assert!(rt; medium.power());
     assert_eq!(rt; answer_number(&medium.put_block(1, &filled(7))), POWER_OFF);
-    is_off(&rt, &mut medium);
+    is_off(&mut medium)?;
     assert_eq!(rt; medium.into_memory(), blocks(rt.alloc(), &[0, 7])?);
     Ok(())
 }
@@ -56,7 +57,7 @@ fn card_makes_its_last_store(rt: HostRuntime) -> Result<(), Fail> {
     let mut card = card(rt.alloc(), 1, &[owned(0, 6), free(0)], 1)?;
     assert!(rt; card.power());
     assert_eq!(rt; answer_number(&card.put_block(0, &filled(7))), POWER_OFF);
-    is_off(&rt, &mut card);
+    is_off(&mut card)?;
     let after = [free(6), owned(0, 7)];
     assert_eq!(rt; card.into_memory(), pages(rt.alloc(), &after)?);
     Ok(())

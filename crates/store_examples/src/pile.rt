@@ -8,6 +8,7 @@ use crate::setup::*;
 use flash_card::FlashCard;
 use queue_cache::QueueCache;
 use std::alloc::Global;
+use std::test::Fail;
 use store::{Store, answer_number};
 use table_cache::TableCache;
 
@@ -24,7 +25,7 @@ fn power_goes_in_a_put(rt: HostRuntime) -> Result<(), Fail> {
     let mut pile = pile_over(rt.alloc(), card(rt.alloc(), 25, &after, 1)?)?;
     put_in_turn(&mut pile, 24)?;
     assert_eq!(rt; answer_number(&pile.put_block(24, &filled(25))), POWER_OFF);
-    is_off(&rt, &mut pile);
+    is_off(&mut pile)?;
     after[0] = owned(0, 1);
     let card = pile.into_below().into_below();
     assert_eq!(rt; card.into_memory(), pages(rt.alloc(), &after)?);
@@ -37,7 +38,7 @@ fn power_goes_in_a_flush(rt: HostRuntime) -> Result<(), Fail> {
     let mut pile = pile_over(rt.alloc(), card(rt.alloc(), 3, &[free(0xff); 4], 2)?)?;
     put_in_turn(&mut pile, 3)?;
     assert_eq!(rt; answer_number(&pile.flush()), POWER_OFF);
-    is_off(&rt, &mut pile);
+    is_off(&mut pile)?;
     let cache = pile.into_below();
     assert_eq!(rt; cache.pending(), 1);
     let after = [owned(0, 1), owned(1, 2), free(0xff), free(0xff)];
