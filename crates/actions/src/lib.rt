@@ -1,4 +1,6 @@
 // The parts of commands: the bytes that they put into data-in, and what they do to the store and the logical unit.
+#![tactic(auto)]
+
 mod data;
 mod pile;
 

@@ -1,4 +1,6 @@
 // Commands taken out of their CDBs (command descriptor blocks).
+#![tactic(auto)]
+
 mod decoding;
 mod opcode;
 

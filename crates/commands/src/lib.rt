@@ -1,4 +1,6 @@
 // The commands with their fields, and what is asked of each before it runs.
+#![tactic(auto)]
+
 mod command;
 mod requirements;
 

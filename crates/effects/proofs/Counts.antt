@@ -1,5 +1,5 @@
 -- The law of a store bounds its count.
-use Prim.Native.Nat.{ℕ, ◌≤◌}
+use Prim.Native.Nat.{◌≤◌}
 use Rattle.store.specs.Steps.{Steps}
 use Rattle.store.specs.Meaning.{Meaning}
 use Rattle.store.specs.Keeps.{Keeps}

@@ -1,4 +1,6 @@
 // What each command does once it has passed the ladder, over a store and the logical unit.
+#![tactic(auto)]
+
 ghost use Rattle.std.specs.Prelude.{◌≡◌, ◌<◌, length};
 ghost use Rattle.store.specs.Steps.{stepped};
 ghost use Rattle.commands.specs.Carried.{order};

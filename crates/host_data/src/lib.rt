@@ -1,4 +1,6 @@
 // Bytes of the host's buffers: the front of its data-out, and what is put into its data-in.
+#![tactic(auto)]
+
 ghost use Rattle.std.specs.Prelude.{◌≡◌, ◌+◌, ◌≤◌, min, length, take};
 ghost use Rattle.store.specs.Bytes.{placed};
 

@@ -1,5 +1,5 @@
 -- What the ladder says of a command that passes it, and of a refusal.
-use Rattle.std.proofs.Common.{◌≡◌, ℕ, ◌<◌, Bool, true, false, cond, not, ◌&&◌, ◌||◌, eqb, ltb, leb, List, [], ◌∷◌, ◌++◌, take, drop, Some, None, Ok, Err, Option, Result, sym, refl, ap, ◌∙◌, subst, ap₂, arith}
+use Rattle.std.proofs.Common.{◌≡◌, ℕ, ◌<◌, Bool, true, cond, not, ◌||◌, ltb, leb, List, ◌++◌, take, drop, Ok, Err, Result, sym, refl, ap, ◌∙◌, subst, ap₂, arith}
 use mathlib.Core.Path.{fun_ext}
 use Rattle.std.proofs.lemmas.Bool.{and_parts, lt-ltb}
 use Rattle.sense.specs.declared.Answer.{Answer}
@@ -8,7 +8,7 @@ use Rattle.sense.specs.declared.Attention.{Attention}
 use Rattle.sense.specs.declared.Attention.TheVariants.{PowerOnOrReset, MediumChanged, ParametersChanged}
 use Rattle.sense.specs.Report.{Refused}
 use Rattle.sense.specs.Ladder.{Rung, first_no, unless_refused}
-use Rattle.sense.proofs.Ladders.{after, first_no_append, All, all_hold, passed, stopped, Refusals, refuses, ordinary}
+use Rattle.sense.proofs.Ladders.{after, first_no_append, all_hold, passed, stopped, Refusals, refuses, ordinary}
 use Rattle.commands.specs.Order.{Order}
 use Rattle.cdb.specs.Decoding.{opcode_of, order_by, cdb_rungs, decoded}
 use Rattle.commands.specs.Requirements.{passes_reservation, in_range, supplied, returned}

@@ -1,4 +1,6 @@
 // The ladder of tests that each command passes before it runs. The first that fails gives the answer.
+#![tactic(auto)]
+
 ghost use Rattle.std.specs.Prelude.{◌≡◌, ◌<◌, take, drop, IfOk, OnOk};
 ghost use Rattle.cdb.specs.Decoding.{seen};
 ghost use Rattle.commands.specs.Carried.{order};

@@ -1,5 +1,5 @@
 -- The mode page: a header of four bytes, then a page of thirteen.
-use Rattle.std.specs.Prelude.{ℕ, ◌+◌, Bool, false, cond, not, List, [], ◌∷◌, ◌++◌, length, Some, None, Option, ◌==◌}
+use Rattle.std.specs.Prelude.{ℕ, ◌+◌, false, cond, List, [], ◌∷◌, ◌++◌, length, Some, None, Option, ◌==◌}
 use Rattle.store.specs.Bytes.{to_be32}
 use Rattle.host_data.specs.Fields.{byte, bit}
 use Rattle.logical_unit.specs.declared.settings.Settings.{Settings}

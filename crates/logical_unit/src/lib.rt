@@ -1,4 +1,6 @@
 // The logical unit's own state, and how commands move it.
+#![tactic(auto)]
+
 mod settings;
 mod state;
 

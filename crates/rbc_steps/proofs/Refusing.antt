@@ -1,15 +1,14 @@
 -- A refused command changes nothing but the attention that it tells.
-use Rattle.std.proofs.Common.{◌≡◌, ℕ, Bool, true, false, cond, eqb, List, length, Ok, Err, Result, sym, refl, ap, ◌∙◌, arith}
+use Rattle.std.proofs.Common.{◌≡◌, ℕ, Bool, true, cond, List, length, Ok, Err, Result, refl, ap}
 use Rattle.std.proofs.lemmas.Bool.{both_ways, eq-eqb, ne_eqb}
 use Rattle.store.specs.Steps.{Steps, Answer as Outcome}
 use Rattle.sense.specs.declared.Answer.{Answer}
 use Rattle.sense.specs.Report.{number, Refused}
 use Rattle.commands.specs.Order.{Order}
-use Rattle.logical_unit.specs.declared.LogicalUnit.{LogicalUnit}
 use Rattle.logical_unit.specs.State.{cleared}
 use Rattle.ladder.specs.Ladder.{judged}
 use Rattle.ladder.proofs.Judging.{judged_yes}
-use Rattle.rbc_steps.specs.Module.{Exchange, exchange, replied, answer_of, run, replied_to, commanded}
+use Rattle.rbc_steps.specs.Module.{Exchange, answer_of, run, replied_to, commanded}
 use Rattle.rbc_steps.specs.Refusals.{Unchanged, RefusalKeeps}
 
 module _ {M : Type 0} (s : Steps M) (h : ℕ) (cdb out : List ℕ) (x : Exchange M) where

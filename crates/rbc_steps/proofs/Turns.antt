@@ -22,9 +22,9 @@ use Rattle.sense.specs.Report.{number, Refused}
 use Rattle.ladder.specs.Ladder.{judged}
 use Rattle.ladder.proofs.Judging.{Passes, judged_no, judged_yes}
 use Rattle.transfer.specs.Transfer.{buffered, put_forced, read_blocks, verify_blocks, write_blocks}
-use Rattle.rbc_steps.specs.Module.{ModuleModel, joined, Exchange, exchange, on_store, then_unit, returning, flushed_if, run_change, run_select, run, Reply, replied, answer_of, refused, replied_to}
+use Rattle.rbc_steps.specs.Module.{ModuleModel, joined, Exchange, exchange, on_store, then_unit, returning, flushed_if, run_select, run, Reply, replied, answer_of, refused, replied_to}
 use Rattle.rbc_steps.specs.Calls.{Request, Call, Command, Reset, Event, called, seen, event, Good}
-use Rattle.rbc_steps.specs.Writes.{Rows, carried_out, of_write, added_to, adds, writes, entered, cost, latest_of}
+use Rattle.rbc_steps.specs.Writes.{Rows, carried_out, of_write, added_to, adds, entered, cost, latest_of}
 use Rattle.rbc_steps.proofs.Growth.{grown, length_chunked, chunk}
 use Rattle.rbc_steps.proofs.Stores.{Tracked, Carried, carried_same, carried_along, last_alone, Ran, ran_along, ran_still, Live, ran_flush, writes_run, Reads, reads_run, verifies_run}
 

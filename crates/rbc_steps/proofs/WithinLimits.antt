@@ -1,19 +1,18 @@
 -- Each call moves the store within its limits, and MAKE flushes it.
-use Rattle.std.proofs.Common.{◌≡◌, ℕ, zero, suc, ◌<◌, ◌≤◌, List, [], ◌∷◌, ◌++◌, Some, sym, refl, ap, ◌∙◌, subst, inl, inr, arith}
+use Rattle.std.proofs.Common.{◌≡◌, ℕ, zero, suc, ◌<◌, List, [], ◌∷◌, ◌++◌, Some, sym, refl, ap, subst, inl, inr, arith}
 use native.Mathlib.Decide.{dec_lt}
 use Rattle.std.proofs.lemmas.List.{append-nil}
 use Rattle.std.specs.List.{slice_get}
 use Rattle.store.specs.Steps.{Content, Steps}
-use Rattle.store.specs.Meaning.{Meaning, Line, contents, followed, held, Thinned, none, keep, strike, Thins, Among, Survives}
+use Rattle.store.specs.Meaning.{Meaning, Line, contents, followed, Thinned, none, keep, strike, Thins, Among, Survives}
 use Rattle.store.specs.Keeps.{Keeps}
-use Rattle.store.proofs.Lines.{thins_same}
 use Rattle.store.proofs.Moving.{held_same}
 use Rattle.rbc_steps.specs.Module.{ModuleModel}
-use Rattle.rbc_steps.specs.Calls.{Call, Event, called, event}
+use Rattle.rbc_steps.specs.Calls.{Call, called}
 use Rattle.rbc_steps.specs.Writes.{Rows, added, added_count}
 use Rattle.rbc_steps.specs.Limits.{Limits, Flushed}
 use Rattle.rbc_steps.proofs.Lines.{Picked, only, kept, struck, picked_latest}
-use Rattle.rbc_steps.proofs.Stores.{Tracked, Tracks}
+use Rattle.rbc_steps.proofs.Stores.{Tracked}
 use Rattle.rbc_steps.proofs.Turns.{turn}
 
 picked_all : (x : Content) (xs : List Content) → Picked 0 (x ∷ xs) (x ∷ xs)

@@ -1,5 +1,5 @@
 -- What the module answers and leaves at each call.
-use Rattle.std.specs.Prelude.{ℕ, ◌*◌, min, Bool, true, cond, not, ◌&&◌, ◌||◌, List, [], ◌∷◌, ◌++◌, length, take, Some, None, Ok, Err, Option, Result, ◌==◌}
+use Rattle.std.specs.Prelude.{ℕ, ◌*◌, min, Bool, true, cond, not, ◌&&◌, ◌||◌, List, length, take, Some, None, Ok, Err, Option, Result, ◌==◌}
 use Rattle.std.specs.Simd.{first_chunks}
 use Rattle.store.specs.declared.StoreError.{StoreError}
 use Rattle.store.specs.Bytes.{placed}

@@ -1,5 +1,7 @@
 // Plays a scene of the brake log on a module over a flash card under a queue cache under a table cache, to the power cut
 // that ends it. Prints each command with its answer, and what is found on the card.
+#![tactic(auto)]
+
 mod numbers;
 mod report;
 mod scene;

@@ -19,7 +19,7 @@ use Rattle.sense.specs.Report.{number, Refused}
 use Rattle.logical_unit.specs.ModePage.{selected}
 use Rattle.logical_unit.specs.State.{cleared, raised_all, raised_others, with_holder, held_by, next_loaded, flushes_first, started, same_settings, settings_changed, unit_reset}
 use Rattle.transfer.specs.Transfer.{buffered, read_blocks}
-use Rattle.rbc_steps.specs.Module.{ModuleModel, joined, Exchange, exchange, then_unit, returning, flushed_if, run_change, run_select, run, Reply, replied, refused, replied_to}
+use Rattle.rbc_steps.specs.Module.{ModuleModel, joined, Exchange, exchange, then_unit, returning, flushed_if, run_select, run, Reply, replied, refused, replied_to}
 use Rattle.rbc_steps.specs.Calls.{Request, Call, Command, Reset, Event, called, seen, event, Good}
 use Rattle.rbc_steps.specs.Writes.{Rows, carried_out, of_write, added_to, adds, entered}
 use Rattle.run_law.specs.Law.{Frees}

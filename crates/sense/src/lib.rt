@@ -1,4 +1,6 @@
 // What COMMAND and RESET answer, and how an answer is reported to the host: number, status and sense data.
+#![tactic(auto)]
+
 ghost use Rattle.std.specs.Prelude.{◌≡◌};
 ghost use Rattle.sense.specs.Report.{attention_codes, report};
 

@@ -1,4 +1,6 @@
 // A list of calls played on a new module, with every reply: what they are, and that the run is safe.
+#![tactic(auto)]
+
 ghost use Rattle.std.specs.Prelude.{◌≡◌, map, IfOk};
 ghost use Rattle.rbc.specs.Modeled.{modeled};
 ghost use Rattle.rbc_steps.specs.Calls.{called};

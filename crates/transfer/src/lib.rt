@@ -1,4 +1,6 @@
 // Blocks moved between a host and a store, in rising order.
+#![tactic(auto)]
+
 ghost use Rattle.std.specs.Prelude.{◌≡◌, ◌+◌, ◌*◌, ◌^◌, ◌<◌, ◌≤◌, length};
 ghost use Rattle.store.specs.Steps.{stepped};
 ghost use Rattle.transfer.specs.Transfer.{put_forced, write_blocks, buffered, fetched, read_blocks, verify_block, verify_blocks};

@@ -1,11 +1,11 @@
-use Rattle.std.proofs.Common.{◌≡◌, List, [], ◌∷◌, ◌++◌, map, vec_items, sym, ap, ◌∙◌, subst, arith, rules}
+use Rattle.std.proofs.Common.{◌≡◌, [], ◌∷◌, ◌++◌, map, vec_items, ap, ◌∙◌, arith, rules}
 use Rattle.std.proofs.lemmas.List.{map-append}
 use Rattle.rbc_steps.specs.Module.{ModuleModel, made_over}
 use Rattle.run_law.specs.Runs.{run}
 use Rattle.run_law.proofs.Histories.{runs_safely}
 use Rattle.rbc.specs.Modeled.{modeled}
-use Rattle.session.specs.Sessions.{call_of, told_of, told_by, Told, left_by}
-use Rattle.session.proofs.Sessions.{Progress, progress, played_more, played_all, ends}
+use Rattle.session.specs.Sessions.{call_of, told_of, told_by, left_by}
+use Rattle.session.proofs.Sessions.{Progress, played_more, played_all, ends}
 use Rattle.session.proofs.play.Goals as goal
 
 pub loop-call-preserved : goal.loop-call-preserved

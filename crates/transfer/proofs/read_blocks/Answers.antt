@@ -1,5 +1,5 @@
 use Rattle.std.proofs.Common.{arith, rules}
-use Rattle.transfer.specs.Transfer.{buffered, fetched}
+use Rattle.transfer.specs.Transfer.{fetched}
 use Rattle.store.proofs.InTurn.{goes_on, stops}
 use Rattle.transfer.proofs.read_blocks.Goals as goal
 

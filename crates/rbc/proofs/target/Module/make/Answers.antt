@@ -1,6 +1,6 @@
 use mathlib.Core.Path.{◌≡◌, sym, subst}
 use borrow.Author.Rules.{rules}
-use Rattle.rbc_steps.specs.Module.{ModuleModel, made_over}
+use Rattle.rbc_steps.specs.Module.{made_over}
 use Rattle.run_law.specs.Law.{RunsSafely}
 use Rattle.run_law.proofs.Histories.{runs_safely}
 use Rattle.rbc.specs.Modeled.{modeled}
