@@ -4,13 +4,17 @@
 ghost use Rattle.std.specs.Prelude.{◌≡◌};
 ghost use Rattle.medium.specs.Check.{check_number};
 
+use thiserror::Error;
+
 pub mod grant;
 pub mod memory;
 
 // Why memory and a block count do not make a medium.
-#[derive(Clone, Copy, PartialEq, Eq, Debug)]
+#[derive(Clone, Copy, PartialEq, Eq, Debug, Error)]
 pub enum Unfit {
+    #[error("a medium has 1 to 16777216 blocks")]
     Count,
+    #[error("the memory is too small for the medium")]
     Memory,
 }
 

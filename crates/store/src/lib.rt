@@ -6,13 +6,17 @@ ghost use Rattle.store.specs.Steps.{Steps, stepped, number, if_power, admitted};
 ghost use Rattle.store.specs.Meaning.{Meaning};
 ghost use Rattle.store.specs.Keeps.{Keeps};
 
+use thiserror::Error;
+
 pub const BLOCK_BYTES: usize = 512;
 
 // Why a call on a store was not good.
-#[derive(Clone, Copy, PartialEq, Eq, Debug)]
+#[derive(Clone, Copy, PartialEq, Eq, Debug, Error)]
 pub enum StoreError {
     // power was off, or was lost during the call
+    #[error("the power is off")]
     PowerOff,
+    #[error("there is no such block")]
     NoSuchBlock,
 }
 
