@@ -11,7 +11,7 @@ use Rattle.store.specs.Keeps.{Keeps}
 use Rattle.store.proofs.Bytes.{length_part}
 use Rattle.medium.specs.Medium.{Stores, medium_steps, medium_meaning}
 use Rattle.medium.proofs.MediumKeeps.{medium_keeps}
-use Rattle.flash_card.specs.Card.{CardModel, CardGood, card, pages, owner, page_content, nobody, first_from, first_page, free, round, free_page, zeros, shown, card_put}
+use Rattle.flash_card.specs.Card.{CardModel, CardGood, card, pages, owner, page_content, nobody, first_from, first_page, free, round, skipped, free_page, zeros, shown, card_put}
 use Rattle.flash_card.specs.PageLaw.{PutPages}
 use Rattle.flash_card.specs.Search.{first_within, first_passes, first_least, first_is, first_none, pigeons}
 use Rattle.flash_card.specs.PageWrites.{length_after, owner_after, others_after, content_after, contents_after, past_after}
@@ -97,7 +97,7 @@ module _ (bytes : List ℕ) (count i : ℕ) where
 round_in : (n i : ℕ) → i < n + n → round n i < n
 round_in n i h = cond_both (nat_lt i n) i (i - n) (λ k. k < n) (λ l. ltb-true i n l) (λ l. let m = ltb-false i n l in omega arith)
 
-module _ (s : CardModel) (ok : CardGood s) where
+module _ (s : CardModel) (room : (s.count + 1) * 516 ≤ length s.bytes) (hand : s.hand < pages s.bytes) where
   test : ℕ → Bool
   test k = free s.bytes s.count (round (pages s.bytes) (s.hand + k))
 
@@ -105,7 +105,7 @@ module _ (s : CardModel) (ok : CardGood s) where
   crowded : ((i : ℕ) → i < pages s.bytes → free s.bytes s.count i ≡ false) → ⊥
   crowded none =
       pigeons s.count (pages s.bytes) (owner s.bytes)
-      (let r = ok.fit.room in omega arith)
+      (omega arith)
       (λ i l. (taken s.bytes s.count i (none i l)).0)
       (λ i j l m e.
       let t = (taken s.bytes s.count j (none j m)).1 in
@@ -125,7 +125,7 @@ module _ (s : CardModel) (ok : CardGood s) where
       (λ (a : i < s.hand).
       let k = (i + m) - s.hand in
       let e : round m (s.hand + k) ≡ i = cond-false (nat_lt (s.hand + k) m) (s.hand + k) ((s.hand + k) - m) (le-ltb (s.hand + k) m (omega arith)) ∙ (let z : (s.hand + k) - m ≡ i = omega arith in z) in
-      ap (free s.bytes s.count) (sym e) ∙ first_least test 0 m k (omega arith) (let hm = ok.hand in omega arith))
+      ap (free s.bytes s.count) (sym e) ∙ first_least test 0 m k (omega arith) (omega arith))
       (λ (a : s.hand ≤ i).
       let k = i - s.hand in
       let e : round m (s.hand + k) ≡ i = cond-true (nat_lt (s.hand + k) m) (s.hand + k) ((s.hand + k) - m) (lt-ltb (s.hand + k) m (omega arith)) ∙ (let z : s.hand + k ≡ i = omega arith in z) in
@@ -141,11 +141,15 @@ module _ (s : CardModel) (ok : CardGood s) where
 
   pub free_in : free_page s < pages s.bytes
   unfolding test
-  free_in = let h = ok.hand in let l = found in round_in (pages s.bytes) (s.hand + first_from test 0 (pages s.bytes)) (omega arith)
+  free_in = let l = found in round_in (pages s.bytes) (s.hand + first_from test 0 (pages s.bytes)) (omega arith)
 
   pub free_free : free s.bytes s.count (free_page s) ≡ true
   unfolding test
   free_free = first_passes test 0 (pages s.bytes) (let l = found in omega arith)
+
+  pub skipped_in : skipped s < pages s.bytes
+  unfolding test
+  skipped_in = found
 
 length_zeros : length zeros ≡ 512
 unfolding zeros
@@ -176,18 +180,9 @@ module _ (bytes : List ℕ) (b n i : ℕ) (all : n ≡ pages bytes) (first : i �
   unfolding shown_at
   shown_none l = sym (cond-false (nat_lt i n) (page_content bytes i) zeros (le-ltb i n l)) ∙ shows
 
--- the free page, from the number of pages
-pub free_page_is :
-    (s : CardModel) (n k : ℕ) → n ≡ pages s.bytes
-    → first_from (λ k. free s.bytes s.count (round n (s.hand + k))) 0 n ≡ k
-    → round n (s.hand + k) ≡ free_page s
-free_page_is s n k all found =
-    ap (λ k. round n (s.hand + k)) (sym found)
-    ∙ ap (λ n. round n (s.hand + first_from (λ k. free s.bytes s.count (round n (s.hand + k))) 0 n)) all
-
 module _ (s : CardModel) (b : ℕ) (x : Content) (ok : CardGood s) (z : length x ≡ 512) where
   length_put : length (card_put s b x).bytes ≡ length s.bytes
-  length_put = length_after s.bytes b (free_page s) x z (free_in s ok)
+  length_put = length_after s.bytes b (free_page s) x z (free_in s ok.fit.room ok.hand)
 
   same_pages : pages (card_put s b x).bytes ≡ pages s.bytes
   same_pages = ap (λ l. l / 516) length_put
@@ -202,7 +197,7 @@ module _ (s : CardModel) (b : ℕ) (x : Content) (ok : CardGood s) (z : length x
               granted = let g = ok.fit.granted in omega arith;
               room = rw length_put ok.fit.room;
             };
-        hand = rw same_pages (round_in (pages s.bytes) (free_page s + 1) (let l = free_in s ok in omega arith));
+        hand = rw same_pages (round_in (pages s.bytes) (free_page s + 1) (let l = free_in s ok.fit.room ok.hand in omega arith));
       }
 
   shown_put : b < s.count → (k : ℕ) → k < s.count → shown (card_put s b x).bytes k ≡ cond (k == b) x (shown s.bytes k)
@@ -224,7 +219,7 @@ module _ (s : CardModel) (b : ℕ) (x : Content) (ok : CardGood s) (z : length x
       after = (card_put s b x).bytes
 
       in_n : p < n
-      in_n = free_in s ok
+      in_n = free_in s ok.fit.room ok.hand
 
       owns : owner after p ≡ b
       owns = owner_after s.bytes b p x z in_n (let f = ok.fit.few in omega arith)
@@ -233,7 +228,7 @@ module _ (s : CardModel) (b : ℕ) (x : Content) (ok : CardGood s) (z : length x
       rest = others_after s.bytes b p x z in_n
 
       was_free : o p < s.count → first_page s.bytes (o p) p < p
-      was_free = freed s.bytes s.count p (free_free s ok)
+      was_free = freed s.bytes s.count p (free_free s ok.fit.room ok.hand)
 
       mine : k ≡ b → shown_at after n (first_page after k n) ≡ cond (k == b) x (shown s.bytes k)
       mine e =
@@ -280,11 +275,11 @@ pub card_put_pages :
 unfolding test
 card_put_pages s b x ok z h =
     let p = free_page s in
-    let l = free_in s ok in
+    let l = free_in s ok.fit.room ok.hand in
     record {
       inside = l;
-      taken_free = free_free s ok;
-      skipped_full = λ k m. first_least (test s ok) 0 (pages s.bytes) k (omega arith) m;
+      taken_free = free_free s ok.fit.room ok.hand;
+      skipped_full = λ k m. first_least (test s ok.fit.room ok.hand) 0 (pages s.bytes) k (omega arith) m;
       taken_owner = owner_after s.bytes b p x z l (let f = ok.fit.few in omega arith);
       taken_content = content_after s.bytes b p x z l;
       other_owner = others_after s.bytes b p x z l;

@@ -1,10 +1,12 @@
 -- The first place that passes a test, and why some page is always free.
-use Rattle.std.specs.Prelude.{◌≡◌, ℕ, zero, suc, ◌+◌, ◌-◌, ◌<◌, ◌≤◌, Bool, true, false, cond, ◌==◌, ◌≢◌}
+use Rattle.std.specs.Prelude.{◌≡◌, ℕ, zero, suc, ◌+◌, ◌-◌, ◌<◌, ◌≤◌, Bool, true, false, cond, ◌==◌, ◌≢◌, Option, Some, None, MatchOption, unwrap_or}
 use Rattle.std.proofs.Math.Path.{refl, ap}
 use Rattle.std.proofs.Common.{sym, ◌∙◌}
 use Rattle.std.proofs.Math.Logic.{⊎_elim}
 use native.Mathlib.Omega.{arith}
 use Rattle.std.proofs.lemmas.Bool.{cond-true, cond-false, cond_both, eq-eqb, ne_eqb, cases_eq, cases_lt, cases_order, true≢false}
+use Rattle.store.specs.Places.{if_below}
+use Rattle.store.proofs.Places.{below_is, below_past}
 use Rattle.flash_card.specs.Card.{first_from}
 
 module _ (test : ℕ → Bool) where
@@ -58,24 +60,19 @@ module _ (test : ℕ → Bool) where
       q : ℕ
       q = first_from test 0 n
 
--- the loop that looks at the places below n in turn
-module _ (test : ℕ → Bool) (n i : ℕ) where
-  first_step : i < n → first_from test i (n - i) ≡ cond (test i) i (first_from test (i + 1) (n - (i + 1)))
-  unfolding first_from
-  first_step h =
-      let a : n - i ≡ suc (n - (i + 1)) = omega arith in
-      let b : suc i ≡ i + 1 = omega arith in
-      ap (first_from test i) a ∙ ap (λ j. cond (test i) i (first_from test j (n - (i + 1)))) b
+-- r is what a search over the numbers below n found
+abbrev pub Found : (ℕ → Bool) → ℕ → Option ℕ → Type 0
+Found test n r =
+    MatchOption r ((k : ℕ) → 0 ≤ k → k < n → test k ≡ false)
+    (λ i. (0 ≤ i) × (i < n) × (test i ≡ true) × ((k : ℕ) → 0 ≤ k → k < i → test k ≡ false))
 
-  pub first_hit : i < n → test i ≡ true → first_from test i (n - i) ≡ i
-  first_hit h t = first_step h ∙ cond-true (test i) i (first_from test (i + 1) (n - (i + 1))) t
+pub first_found : (test : ℕ → Bool) (n : ℕ) (r : Option ℕ) → Found test n r → r ≡ if_below n (first_from test 0 n)
+first_found test n None h = let e = first_none test n (λ j l. h j (omega arith) l) in below_past n (first_from test 0 n) (omega arith)
+first_found test n (Some i) h = below_is n i (first_from test 0 n) h.1 (first_is test n i h.1 h.2 (λ j l. h.3 j (omega arith) l))
 
-  pub first_miss : i < n → test i ≡ false → first_from test i (n - i) ≡ first_from test (i + 1) (n - (i + 1))
-  first_miss h t = first_step h ∙ cond-false (test i) i (first_from test (i + 1) (n - (i + 1))) t
-
-  pub first_end : n ≤ i → first_from test i (n - i) ≡ i
-  unfolding first_from
-  first_end h = let a : n - i ≡ 0 = omega arith in ap (first_from test i) a
+pub first_or_end : (test : ℕ → Bool) (n : ℕ) (r : Option ℕ) → Found test n r → unwrap_or r n ≡ first_from test 0 n
+first_or_end test n None h = sym (first_none test n (λ j l. h j (omega arith) l))
+first_or_end test n (Some i) h = sym (first_is test n i h.1 h.2 (λ j l. h.3 j (omega arith) l))
 
 -- more places than values: some value stands at two places
 pub pigeons : (c n : ℕ) (f : ℕ → ℕ) → c < n → ((i : ℕ) → i < n → f i < c) → ((i j : ℕ) → i < j → j < n → f i ≢ f j) → ⊥

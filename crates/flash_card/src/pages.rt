@@ -3,7 +3,7 @@ ghost use Rattle.std.specs.Prelude.{◌≡◌, ◌+◌, ◌*◌, ◌<◌, ◌≤
 ghost use Rattle.store.specs.Places.{if_below};
 ghost use Rattle.flash_card.specs.Card.{pages, owner, page_content, first_page, free, round, disown, disown_first, write_page};
 
-use medium::memory::{content_at, overwrite};
+use medium::memory::{array_at, overwrite};
 
 pub const PAGE_BYTES: usize = 516;
 
@@ -24,21 +24,20 @@ impl Pages {
         self.memory.len() / PAGE_BYTES
     }
 
+    #[tactic(auto, unfolding(crate::specs::Card::owner))]
     pub fn owner(&self, page: usize) -> u32
         requires { page < pages self.now.memory.items }
         ensures { result ≡ owner self.now.memory.items page }
     {
-        let at = page * PAGE_BYTES;
-        let mut bytes = [0; 4];
-        bytes.copy_from_slice(&self.memory[at..at + OWNER_BYTES]);
-        u32::from_be_bytes(bytes)
+        u32::from_be_bytes(array_at(&self.memory, page * PAGE_BYTES))
     }
 
+    #[tactic(auto, unfolding(crate::specs::Card::page_content))]
     pub fn content(&self, page: usize) -> [u8; 512]
         requires { page < pages self.now.memory.items }
         ensures { result ≡ page_content self.now.memory.items page }
     {
-        content_at(&self.memory, page * PAGE_BYTES + OWNER_BYTES)
+        array_at(&self.memory, page * PAGE_BYTES + OWNER_BYTES)
     }
 
     // The first of n pages that the block owns.
@@ -46,12 +45,7 @@ impl Pages {
         requires { n ≤ pages self.now.memory.items }
         ensures { result ≡ if_below n (first_page self.now.memory.items block n) }
     {
-        for i in 0..n {
-            if self.owner(i) == block {
-                return Some(i);
-            }
-        }
-        None
+        (0..n).find(|&page| self.owner(page) == block)
     }
 
     // Is the page's owner not below the count, or has an earlier page that owner?
@@ -60,11 +54,7 @@ impl Pages {
         ensures { result ≡ free self.now.memory.items count page }
     {
         let owner = self.owner(page);
-        if owner < count {
-            self.first_page(owner, page).is_some()
-        } else {
-            true
-        }
+        owner >= count || self.first_page(owner, page).is_some()
     }
 
     // The page takes the content, and then the block as its owner.
@@ -105,7 +95,8 @@ impl Pages {
 
 // Place i, counted round n pages.
 pub fn round(n: usize, i: usize) -> usize
-    ensures { result ≡ round n i }
+    ensures place { result ≡ round n i }
+    ensures within { i < n + n → result < n }
 {
     if i < n { i } else { i - n }
 }

@@ -1,4 +1,4 @@
-// What the media have in common: the check before one is made, the parts of its memory, and the grant of stores.
+// A medium of blocks, whatever its layout: the check before one is made, the parts of its memory, and the grant of stores.
 #![tactic(auto)]
 
 ghost use Rattle.std.specs.Prelude.{◌≡◌};
@@ -6,8 +6,13 @@ ghost use Rattle.medium.specs.Check.{check_number};
 
 use thiserror::Error;
 
+mod block_medium;
 pub mod grant;
+mod layout;
 pub mod memory;
+
+pub use block_medium::BlockMedium;
+pub use layout::Layout;
 
 // Why memory and a block count do not make a medium.
 #[derive(Clone, Copy, PartialEq, Eq, Debug, Error)]

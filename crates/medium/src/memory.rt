@@ -1,15 +1,18 @@
 // Parts of a medium's memory.
-ghost use Rattle.std.specs.Prelude.{◌≡◌, ◌+◌, ◌≤◌, length, vec_len};
+ghost use Rattle.std.specs.Prelude.{◌≡◌, ◌+◌, ◌≤◌, length};
 ghost use Rattle.store.specs.Bytes.{part, placed};
 ghost use Rattle.medium.specs.Check.{checked};
 
 use crate::Unfit;
 
+// A medium has at most so many blocks.
+pub const MAX_BLOCKS: u32 = 16_777_216;
+
 // Is the count in range, and does the memory hold the bytes that it needs?
 pub fn check(memory: &[u8], count: u32, needed: usize) -> Result<(), Unfit>
     ensures { result ≡ checked count needed (length memory.now) }
 {
-    if count < 1 || count > 16_777_216 {
+    if !(1..=MAX_BLOCKS).contains(&count) {
         Err(Unfit::Count)
     } else if memory.len() < needed {
         Err(Unfit::Memory)
@@ -18,21 +21,18 @@ pub fn check(memory: &[u8], count: u32, needed: usize) -> Result<(), Unfit>
     }
 }
 
-// The 512 bytes from place `at`.
-pub fn content_at(memory: &Vec<u8>, at: usize) -> [u8; 512]
-    requires { at + 512 ≤ vec_len memory.now }
-    ensures { result ≡ part memory.now.items at 512 }
+// The N bytes from place `at`.
+pub fn array_at<const N: usize>(memory: &[u8], at: usize) -> [u8; N]
+    requires { at + N ≤ length memory.now }
+    ensures { result ≡ part memory.now at N }
 {
-    let mut content = [0; 512];
-    content.copy_from_slice(&memory[at..at + 512]);
-    content
+    *memory[at..].first_chunk().unwrap()
 }
 
 // Writes the bytes at place `at`, and no other.
-pub fn overwrite(memory: &mut Vec<u8>, at: usize, bytes: &[u8])
-    requires { at + length bytes.now ≤ vec_len memory.old }
-    ensures items { memory.new.items ≡ placed memory.old.items at bytes.now }
-    ensures len { vec_len memory.new ≡ vec_len memory.old }
+pub fn overwrite(memory: &mut [u8], at: usize, bytes: &[u8])
+    requires { at + length bytes.now ≤ length memory.old }
+    ensures { memory.new ≡ placed memory.old at bytes.now }
 {
     memory[at..at + bytes.len()].copy_from_slice(bytes);
 }

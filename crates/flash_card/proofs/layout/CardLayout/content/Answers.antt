@@ -2,10 +2,10 @@ use Rattle.std.proofs.Common.{refl, ◌∙◌, arith}
 use Rattle.flash_card.specs.Card.{first_page, zeros}
 use Rattle.flash_card.specs.CardKeeps.{shown_page, shown_none}
 use Rattle.store.proofs.Places.{below_some, below_none}
-use Rattle.flash_card.proofs.card.FlashCard.content.Goals as goal
+use Rattle.flash_card.proofs.layout.CardLayout.content.Goals as goal
 
 pub returns-in-Some : goal.returns-in-Some
-returns-in-Some c =
+returns-in-Some c _ _ =
     let bytes = c.args.self.now.pages.memory.items in
     let n = c.count-n.result in
     let at = below_some n c.in-Some.page (first_page bytes c.args.block n) c.in-Some.ensures in
@@ -13,7 +13,7 @@ returns-in-Some c =
 
 pub returns-in-None : goal.returns-in-None
 unfolding zeros
-returns-in-None c =
+returns-in-None c _ _ =
     let bytes = c.args.self.now.pages.memory.items in
     let n = c.count-n.result in
     let page = first_page bytes c.args.block n in

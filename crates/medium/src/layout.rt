@@ -1,0 +1,70 @@
+// How the blocks of a medium lie in its memory.
+ghost use Rattle.std.specs.Prelude.{◌≡◌, ℕ, ◌+◌, ◌-◌, ◌<◌, ◌≤◌, length, vec_len};
+ghost use Rattle.std.specs.declared.alloc.Global.{Global};
+ghost use Rattle.std.specs.declared.vec.Vec.{Vec};
+ghost use Rattle.store.specs.Steps.{Content};
+ghost use Rattle.store.specs.Keeps.{Keeps};
+ghost use Rattle.medium.specs.Medium.{Medium, Fit, medium_steps, medium_meaning};
+
+// A layout owns the memory. Each block shows one content, and a store of a block leaves what `medium` says;
+// so one code serves media of every layout.
+pub trait Layout {
+    // a medium so laid out, as its steps see it
+    ghost Model: { Type 0 };
+
+    // the model of a medium with this layout, block count and grant
+    ghost model: { Self → ℕ → ℕ → Model };
+
+    ghost medium: { Medium Model };
+
+    // what is true of the model of every such medium
+    ghost good: { Model → Type 0 };
+
+    // the law of a store of a block with a content, in the layout's words
+    ghost stores: { ℕ → Content → Model → Model → Type 0 };
+
+    // how many bytes so many blocks need
+    ghost needed: { ℕ → ℕ };
+
+    ghost bytes: { Self → Vec ℕ Global };
+
+    // how the layout of a new medium is, beside its memory
+    ghost fresh: { Self → Type 0 };
+
+    // How many bytes so many blocks need.
+    fn needed(count: u32) -> usize
+        ensures { result ≡ needed count };
+
+    // A layout over memory with room for a block, which is left as it is.
+    fn over(memory: Vec<u8>) -> Self
+        requires { needed 1 ≤ vec_len memory }
+        ensures { (bytes result ≡ memory) × fresh result };
+
+    // The memory back.
+    fn into_memory(self) -> Vec<u8>
+        ensures { result ≡ bytes self };
+
+    // What the block shows.
+    fn content(&self, block: u32) -> [u8; 512]
+        requires { needed (block + 1) ≤ vec_len (bytes self.now) }
+        ensures { (count grant : ℕ) → result ≡ medium.shown (model self.now count grant) block };
+
+    // One store: the block takes the content.
+    fn store(&mut self, count: u32, block: u32, content: &[u8; 512])
+        requires inside { block < count }
+        requires room { needed count ≤ vec_len (bytes self.old) }
+        ensures puts { (grant : ℕ) → model self.new count (grant - 1) ≡ medium.put (model self.old count grant) block content.now }
+        ensures len { vec_len (bytes self.new) ≡ vec_len (bytes self.old) };
+
+    ghost rising: { (m n : ℕ) → m ≤ n → needed m ≤ needed n };
+
+    ghost counts: { (l : Self) (count grant : ℕ) → medium.count (model l count grant) ≡ count };
+
+    ghost grants: { (l : Self) (count grant : ℕ) → medium.grant (model l count grant) ≡ grant };
+
+    ghost valid: { (l : Self) (count grant : ℕ) → Fit count grant (needed count) (vec_len (bytes l)) → good (model l count grant) };
+
+    ghost keeps: { Keeps (medium_steps medium) (medium_meaning medium) good };
+
+    ghost lawful: { (s : Model) (b : ℕ) (x : Content) → good s → length x ≡ 512 → b < medium.count s → stores b x s (medium.put s b x) };
+}
