@@ -1,4 +1,4 @@
--- The flash card keeps a store's meaning.
+-- The flash card keeps a store's meaning. It stands in specs/, since an impl takes the proof of a law from there.
 use Rattle.std.specs.Prelude.{◌≡◌, ℕ, ◌+◌, ◌-◌, ◌*◌, ◌/◌, ◌<◌, ◌≤◌, Bool, true, false, cond, List, length, ◌==◌, ◌≢◌, nat_eq, nat_lt, refl}
 use Rattle.std.proofs.Math.Path.{sym, ap}
 use Rattle.std.proofs.Common.{◌∙◌}
@@ -166,19 +166,6 @@ content_sized bytes b =
 -- what the first of n pages shows
 shown_at : List ℕ → ℕ → ℕ → Content
 shown_at bytes n i = cond (nat_lt i n) (page_content bytes i) zeros
-
-module _ (bytes : List ℕ) (b n i : ℕ) (all : n ≡ pages bytes) (first : i ≡ first_page bytes b n) where
-  shows : shown_at bytes n i ≡ shown bytes b
-  unfolding shown_at
-  shows = ap (shown_at bytes n) first ∙ ap (λ m. shown_at bytes m (first_page bytes b m)) all
-
-  pub shown_page : i < n → page_content bytes i ≡ shown bytes b
-  unfolding shown_at
-  shown_page l = sym (cond-true (nat_lt i n) (page_content bytes i) zeros (lt-ltb i n l)) ∙ shows
-
-  pub shown_none : n ≤ i → zeros ≡ shown bytes b
-  unfolding shown_at
-  shown_none l = sym (cond-false (nat_lt i n) (page_content bytes i) zeros (le-ltb i n l)) ∙ shows
 
 module _ (s : CardModel) (b : ℕ) (x : Content) (ok : CardGood s) (z : length x ≡ 512) where
   length_put : length (card_put s b x).bytes ≡ length s.bytes

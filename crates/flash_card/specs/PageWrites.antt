@@ -1,16 +1,13 @@
--- The pages of a card, and what a write to one leaves of the others.
-use Rattle.std.specs.Prelude.{◌≡◌, ℕ, zero, suc, ◌+◌, ◌*◌, ◌<◌, ◌≤◌, true, false, cond, ◌⊎◌, List, length, drop, ◌==◌, ◌≢◌}
+-- The pages of a card, and what a write to one leaves of the others. A proof of the card's law, which is taken from specs/.
+use Rattle.std.specs.Prelude.{◌≡◌, ℕ, zero, suc, ◌+◌, ◌*◌, ◌<◌, ◌≤◌, true, false, cond, List, length, drop, ◌==◌, ◌≢◌}
 use Rattle.std.proofs.Math.Path.{refl, ap, subst}
 use Rattle.std.proofs.Common.{sym, ◌∙◌, arith, lit<}
 use Rattle.std.proofs.Math.Logic.{inl, inr, ⊎_elim}
-use Rattle.std.proofs.lemmas.Bool.{cond-true, cond-false, cond_both, eq-eqb, ne_eqb, cases_eq, cases_lt, cases_order}
+use Rattle.std.proofs.lemmas.Bool.{cond-true, cond-false, cond_both, eq-eqb, ne_eqb, cases_eq, cases_lt}
 use Rattle.store.specs.Steps.{Content}
 use Rattle.store.specs.Bytes.{placed, from_be32, to_be32}
 use Rattle.flash_card.specs.Card.{pages, owner, page_content, nobody, disown, disown_first, write_page}
 use Rattle.store.proofs.Bytes.{from_to_be32, part_here, part_elsewhere, length_placed, drop_behind}
-
-apart : (i j : ℕ) → (i ≢ j) → (i < j) ⊎ (j < i)
-apart i j n = ⊎_elim (λ (e : i ≡ j). absurd (n e)) (λ (o : (i < j) ⊎ (j < i)). o) (cases_order i j)
 
 module _ (bytes : List ℕ) (i : ℕ) (h : i < pages bytes) where
   page_fits : i * 516 + 516 ≤ length bytes
@@ -32,7 +29,7 @@ module _ (bytes : List ℕ) (i : ℕ) (h : i < pages bytes) where
     owner_elsewhere j n =
         ap from_be32
         (part_elsewhere bytes (to_be32 b) (i * 516) fits (j * 516) 4
-        (⊎_elim (λ (l : j < i). inl (omega arith)) (λ (l : i < j). inr (omega arith)) (apart j i n)))
+        (⊎_elim (λ (l : j < i). inl (omega arith)) (λ (l : i ≤ j). inr (omega arith)) (cases_lt j i)))
 
     pub past_owned : (a : ℕ) → i * 516 + 516 ≤ a → drop a (placed bytes (i * 516) (to_be32 b)) ≡ drop a bytes
     past_owned a l = drop_behind bytes (to_be32 b) (i * 516) fits a (omega arith)
@@ -58,7 +55,7 @@ module _ (bytes : List ℕ) (i : ℕ) (h : i < pages bytes) where
     unfolding page_content
     content_elsewhere j n =
         part_elsewhere bytes x (i * 516 + 4) room (j * 516 + 4) 512
-        (⊎_elim (λ (l : j < i). inl (omega arith)) (λ (l : i < j). inr (omega arith)) (apart j i n))
+        (⊎_elim (λ (l : j < i). inl (omega arith)) (λ (l : i ≤ j). inr (omega arith)) (cases_lt j i))
 
     pub past_stored : (a : ℕ) → i * 516 + 516 ≤ a → drop a (placed bytes (i * 516 + 4) x) ≡ drop a bytes
     past_stored a l = drop_behind bytes x (i * 516 + 4) room a (omega arith)
@@ -68,10 +65,7 @@ module _ (bytes : List ℕ) (i : ℕ) (h : i < pages bytes) where
     owner_stored j =
         ap from_be32
         (part_elsewhere bytes x (i * 516 + 4) room (j * 516) 4
-        (⊎_elim (λ (l : j ≤ i). inl (omega arith)) (λ (l : i < j). inr (omega arith)) (le_or j i)))
-      where
-        le_or : (j i : ℕ) → (j ≤ i) ⊎ (i < j)
-        le_or j i = ⊎_elim (λ (l : i < j). inr l) (λ (l : j ≤ i). inl l) (cases_lt i j)
+        (⊎_elim (λ (l : i < j). inr (omega arith)) (λ (l : j ≤ i). inl (omega arith)) (cases_lt i j)))
 
 -- one page given to nobody, if block b owns it and it is not page p
 module _ (bytes : List ℕ) (b p i : ℕ) (h : i < pages bytes) where

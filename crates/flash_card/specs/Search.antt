@@ -1,12 +1,10 @@
--- The first place that passes a test, and why some page is always free.
-use Rattle.std.specs.Prelude.{◌≡◌, ℕ, zero, suc, ◌+◌, ◌-◌, ◌<◌, ◌≤◌, Bool, true, false, cond, ◌==◌, ◌≢◌, Option, Some, None, MatchOption, unwrap_or}
+-- The first place that passes a test, and why some page is always free. A proof of the card's law, which is taken from specs/.
+use Rattle.std.specs.Prelude.{◌≡◌, ℕ, zero, suc, ◌+◌, ◌-◌, ◌<◌, ◌≤◌, Bool, true, false, cond, ◌==◌, ◌≢◌}
 use Rattle.std.proofs.Math.Path.{refl, ap}
 use Rattle.std.proofs.Common.{sym, ◌∙◌}
 use Rattle.std.proofs.Math.Logic.{⊎_elim}
 use native.Mathlib.Omega.{arith}
 use Rattle.std.proofs.lemmas.Bool.{cond-true, cond-false, cond_both, eq-eqb, ne_eqb, cases_eq, cases_lt, cases_order, true≢false}
-use Rattle.store.specs.Places.{if_below}
-use Rattle.store.proofs.Places.{below_is, below_past}
 use Rattle.flash_card.specs.Card.{first_from}
 
 module _ (test : ℕ → Bool) where
@@ -59,20 +57,6 @@ module _ (test : ℕ → Bool) where
     where
       q : ℕ
       q = first_from test 0 n
-
--- r is what a search over the numbers below n found
-abbrev pub Found : (ℕ → Bool) → ℕ → Option ℕ → Type 0
-Found test n r =
-    MatchOption r ((k : ℕ) → 0 ≤ k → k < n → test k ≡ false)
-    (λ i. (0 ≤ i) × (i < n) × (test i ≡ true) × ((k : ℕ) → 0 ≤ k → k < i → test k ≡ false))
-
-pub first_found : (test : ℕ → Bool) (n : ℕ) (r : Option ℕ) → Found test n r → r ≡ if_below n (first_from test 0 n)
-first_found test n None h = let e = first_none test n (λ j l. h j (omega arith) l) in below_past n (first_from test 0 n) (omega arith)
-first_found test n (Some i) h = below_is n i (first_from test 0 n) h.1 (first_is test n i h.1 h.2 (λ j l. h.3 j (omega arith) l))
-
-pub first_or_end : (test : ℕ → Bool) (n : ℕ) (r : Option ℕ) → Found test n r → unwrap_or r n ≡ first_from test 0 n
-first_or_end test n None h = sym (first_none test n (λ j l. h j (omega arith) l))
-first_or_end test n (Some i) h = sym (first_is test n i h.1 h.2 (λ j l. h.3 j (omega arith) l))
 
 -- more places than values: some value stands at two places
 pub pigeons : (c n : ℕ) (f : ℕ → ℕ) → c < n → ((i : ℕ) → i < n → f i < c) → ((i j : ℕ) → i < j → j < n → f i ≢ f j) → ⊥

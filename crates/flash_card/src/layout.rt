@@ -84,16 +84,16 @@ impl Layout for Card {
     }
 
     // What the block shows: its first page, or zeros if it has none.
-    fn content(&self, block: u32) -> [u8; 512] {
-        let n = self.pages.count();
-        match self.pages.first_page(block, n) {
+    #[tactic(auto, unfolding(crate::specs::Card::zeros))]
+    fn content(&self, block: u32) -> [u8; BLOCK_BYTES] {
+        match self.pages.first_page(block, self.pages.count()) {
             Some(page) => self.pages.content(page),
             None => [0; BLOCK_BYTES],
         }
     }
 
     // The first free page takes the content, and the block's other pages are given up.
-    fn store(&mut self, count: u32, block: u32, content: &[u8; 512]) {
+    fn store(&mut self, count: u32, block: u32, content: &[u8; BLOCK_BYTES]) {
         let page = self.free_page(count);
         self.pages.write(page, block, content);
         self.pages.disown_others(block, page);

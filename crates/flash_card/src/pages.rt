@@ -4,14 +4,16 @@ ghost use Rattle.store.specs.Places.{if_below};
 ghost use Rattle.flash_card.specs.Card.{pages, owner, page_content, first_page, free, round, disown, disown_first, write_page};
 
 use medium::memory::{array_at, overwrite};
-
-pub const PAGE_BYTES: usize = 516;
+use store::BLOCK_BYTES;
 
 const OWNER_BYTES: usize = 4;
 
-// the owner of a page that belongs to no block
-const NOBODY: u32 = 0xffff_ffff;
+pub const PAGE_BYTES: usize = OWNER_BYTES + BLOCK_BYTES;
 
+// the owner of a page that belongs to no block
+const NOBODY: u32 = u32::MAX;
+
+// A page's number is bounded at each method: a type for it would have to borrow the pages, also while one is written.
 #[derive(Drop)]
 pub struct Pages {
     pub memory: Vec<u8>,
@@ -33,7 +35,7 @@ impl Pages {
     }
 
     #[tactic(auto, unfolding(crate::specs::Card::page_content))]
-    pub fn content(&self, page: usize) -> [u8; 512]
+    pub fn content(&self, page: usize) -> [u8; BLOCK_BYTES]
         requires { page < pages self.now.memory.items }
         ensures { result ≡ page_content self.now.memory.items page }
     {
@@ -58,7 +60,7 @@ impl Pages {
     }
 
     // The page takes the content, and then the block as its owner.
-    pub fn write(&mut self, page: usize, block: u32, content: &[u8; 512])
+    pub fn write(&mut self, page: usize, block: u32, content: &[u8; BLOCK_BYTES])
         requires { page < pages self.old.memory.items }
         ensures items { self.new.memory.items ≡ write_page self.old.memory.items page block content.now }
         ensures len { vec_len self.new.memory ≡ vec_len self.old.memory }
@@ -74,21 +76,19 @@ impl Pages {
         ensures items { self.new.memory.items ≡ disown self.old.memory.items block taken page }
         ensures len { vec_len self.new.memory ≡ vec_len self.old.memory }
     {
-        if page == taken {
-            return;
-        }
-        if self.owner(page) == block {
+        if page != taken && self.owner(page) == block {
             overwrite(&mut self.memory, page * PAGE_BYTES, &NOBODY.to_be_bytes());
         }
     }
 
     // The block's pages, but for the page taken, are given to nobody.
+    #[tactic(auto, unfolding(crate::specs::Card::disown_first))]
     pub fn disown_others(&mut self, block: u32, taken: usize)
         ensures items { self.new.memory.items ≡ disown_first self.old.memory.items block taken (pages self.old.memory.items) }
         ensures len { vec_len self.new.memory ≡ vec_len self.old.memory }
     {
-        for i in 0..self.count() {
-            self.disown_page(block, taken, i);
+        for page in 0..self.count() {
+            self.disown_page(block, taken, page);
         }
     }
 }

@@ -1,4 +1,4 @@
--- The flat medium keeps a store's meaning.
+-- The flat medium keeps a store's meaning. It stands in specs/, since an impl takes the proof of a law from there.
 use Rattle.std.specs.Prelude.{◌≡◌, ℕ, ◌+◌, ◌*◌, ◌<◌, ◌≤◌, cond, ◌⊎◌, length, ◌==◌, refl}
 use Rattle.std.proofs.Common.{sym, inl, inr, ⊎_elim, arith}
 use Rattle.std.proofs.lemmas.Bool.{eq-eqb, ne_eqb, cases_order}

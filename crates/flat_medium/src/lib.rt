@@ -60,11 +60,11 @@ impl Layout for Flat {
         self.memory
     }
 
-    fn content(&self, block: u32) -> [u8; 512] {
+    fn content(&self, block: u32) -> [u8; BLOCK_BYTES] {
         array_at(&self.memory, block as usize * BLOCK_BYTES)
     }
 
-    fn store(&mut self, _count: u32, block: u32, content: &[u8; 512]) {
+    fn store(&mut self, _count: u32, block: u32, content: &[u8; BLOCK_BYTES]) {
         overwrite(&mut self.memory, block as usize * BLOCK_BYTES, content);
     }
 }

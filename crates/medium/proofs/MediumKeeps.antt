@@ -1,8 +1,8 @@
 -- A medium whose stores show what they should keeps a store's meaning.
-use Rattle.std.proofs.Common.{◌≡◌, ℕ, zero, suc, ◌-◌, ◌<◌, ◌≤◌, true, false, cond, eqb, ltb, [], ◌∷◌, length, Ok, Err, refl, ap, ◌∙◌, inl, inr, arith}
+use Rattle.std.proofs.Common.{◌≡◌, ℕ, zero, suc, ◌-◌, ◌<◌, ◌≤◌, true, false, cond, eqb, ltb, [], ◌∷◌, length, Ok, Err, refl, ap, inl, inr, arith}
 use Rattle.std.proofs.lemmas.Bool.{cond-true, cond-false, lt-ltb, le-ltb}
-use Rattle.store.specs.declared.StoreError.TheVariants.{PowerOff, NoSuchBlock}
-use Rattle.store.specs.Steps.{Content, Answer, Stepped, stepped, number, next, if_power}
+use Rattle.store.specs.declared.StoreError.TheVariants.{PowerOff}
+use Rattle.store.specs.Steps.{Content, number}
 use Rattle.store.specs.Meaning.{Meaning, sum_below, added, Thins, Survives}
 use Rattle.store.specs.Meaning.Thinned.{none, keep, strike}
 use Rattle.store.specs.Keeps.{Moves, Keeps}
@@ -14,18 +14,6 @@ use Rattle.medium.specs.Medium.{Medium, Stores, stored, medium_runs, medium_step
 none_held : (n : ℕ) → sum_below n (λ b. 0) ≡ 0
 none_held zero = refl
 none_held (suc n) = let h = none_held n in omega arith
-
--- the state that a put leaves where nothing refuses it
-pub put_after :
-    {M : Type 0} (medium : Medium M) (s s' : M) (b : ℕ) (x : Content) (r : Answer (Unit {0}))
-    → stepped r s' ≡ (medium_steps medium).put s b x → b < medium.count s → 0 < medium.grant s → s' ≡ medium.put s b x
-put_after {M} medium s s' b x r e h g =
-    let run : Stepped (Unit {0}) M = (medium_runs medium).put s b x in
-    ap (λ (c : Stepped (Unit {0}) M). c.after)
-    (e
-    ∙ ap (λ (a : Answer (Unit {0})). next (stepped a s) (λ _ _. run))
-    (cond-true (ltb b (medium.count s)) (if_power (ltb 0 (medium.grant s))) (Err NoSuchBlock) (lt-ltb b (medium.count s) h)
-    ∙ cond-true (ltb 0 (medium.grant s)) (Ok tt) (Err PowerOff) (lt-ltb 0 (medium.grant s) g)))
 
 -- what a medium's implementation shows of its good states
 pub record Sure {M : Type 0} (medium : Medium M) (good : M → Type 0) : Type 0 where

@@ -6,6 +6,8 @@ ghost use Rattle.store.specs.Steps.{Content};
 ghost use Rattle.store.specs.Keeps.{Keeps};
 ghost use Rattle.medium.specs.Medium.{Medium, Fit, medium_steps, medium_meaning};
 
+use store::BLOCK_BYTES;
+
 // A layout owns the memory. Each block shows one content, and a store of a block leaves what `medium` says;
 // so one code serves media of every layout.
 pub trait Layout {
@@ -45,12 +47,12 @@ pub trait Layout {
         ensures { result ≡ bytes self };
 
     // What the block shows.
-    fn content(&self, block: u32) -> [u8; 512]
+    fn content(&self, block: u32) -> [u8; BLOCK_BYTES]
         requires { needed (block + 1) ≤ vec_len (bytes self.now) }
         ensures { (count grant : ℕ) → result ≡ medium.shown (model self.now count grant) block };
 
     // One store: the block takes the content.
-    fn store(&mut self, count: u32, block: u32, content: &[u8; 512])
+    fn store(&mut self, count: u32, block: u32, content: &[u8; BLOCK_BYTES])
         requires inside { block < count }
         requires room { needed count ≤ vec_len (bytes self.old) }
         ensures puts { (grant : ℕ) → model self.new count (grant - 1) ≡ medium.put (model self.old count grant) block content.now }

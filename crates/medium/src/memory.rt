@@ -3,10 +3,7 @@ ghost use Rattle.std.specs.Prelude.{◌≡◌, ◌+◌, ◌≤◌, length};
 ghost use Rattle.store.specs.Bytes.{part, placed};
 ghost use Rattle.medium.specs.Check.{checked};
 
-use crate::Unfit;
-
-// A medium has at most so many blocks.
-pub const MAX_BLOCKS: u32 = 16_777_216;
+use crate::{MAX_BLOCKS, Unfit};
 
 // Is the count in range, and does the memory hold the bytes that it needs?
 pub fn check(memory: &[u8], count: u32, needed: usize) -> Result<(), Unfit>

@@ -9,7 +9,7 @@ use crate::Unfit;
 use crate::grant::spend;
 use crate::layout::Layout;
 use crate::memory::check;
-use store::{Store, StoreError, admit, require_power};
+use store::{BLOCK_BYTES, Store, StoreError, admit, require_power};
 
 impl<L: Layout> BlockMedium<L> {
     // Do memory and count make a medium?
@@ -51,7 +51,7 @@ impl<L: Layout> BlockMedium<L> {
     }
 
     // One store: the block takes the content, and the grant is lower by 1.
-    fn write_block(&mut self, block: u32, content: &[u8; 512]) -> Result<(), StoreError>
+    fn write_block(&mut self, block: u32, content: &[u8; BLOCK_BYTES]) -> Result<(), StoreError>
         requires { block < self.old.count }
         ensures { stepped result (L.model self.new.layout self.new.count self.new.grant) ≡ (medium_runs L.medium).put (L.model self.old.layout self.old.count self.old.grant) block content.now }
     {
@@ -83,12 +83,12 @@ impl<L: Layout> Store for BlockMedium<L> {
         self.grant > 0
     }
 
-    fn read_block(&mut self, block: u32) -> Result<[u8; 512], StoreError> {
+    fn read_block(&mut self, block: u32) -> Result<[u8; BLOCK_BYTES], StoreError> {
         admit(block, self.count, self.power())?;
         Ok(self.layout.content(block))
     }
 
-    fn put_block(&mut self, block: u32, content: &[u8; 512]) -> Result<(), StoreError>
+    fn put_block(&mut self, block: u32, content: &[u8; BLOCK_BYTES]) -> Result<(), StoreError>
         ensures steps { stepped result (L.model self.new.layout self.new.count self.new.grant) ≡ (medium_steps L.medium).put (L.model self.old.layout self.old.count self.old.grant) block content.now }
         ensures stores { block < self.old.count → 0 < self.old.grant → L.stores block content.now (L.model self.old.layout self.old.count self.old.grant) (L.model self.new.layout self.new.count self.new.grant) }
     {

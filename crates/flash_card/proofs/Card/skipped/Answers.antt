@@ -2,7 +2,7 @@ use Rattle.std.proofs.Common.{◌≡◌, ℕ, ◌+◌, Bool, true, false, ap, �
 use Rattle.std.proofs.lemmas.Iterator.{first_from_Range}
 use Rattle.flash_card.specs.Card.{free, round, skipped, first_from}
 use Rattle.flash_card.specs.Modeled.{card_model}
-use Rattle.flash_card.specs.Search.{first_or_end}
+use Rattle.flash_card.proofs.Found.{first_or_end}
 use Rattle.flash_card.specs.CardKeeps.{skipped_in}
 use Rattle.flash_card.proofs.Card.skipped.Goals as goal
 

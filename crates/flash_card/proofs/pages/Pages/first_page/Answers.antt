@@ -1,7 +1,7 @@
 use Rattle.std.proofs.Common.{◌≡◌, ℕ, Bool, true, false, eqb, rules, tests}
 use Rattle.std.proofs.lemmas.Iterator.{first_from_Range}
 use Rattle.flash_card.specs.Card.{owner}
-use Rattle.flash_card.specs.Search.{first_found}
+use Rattle.flash_card.proofs.Found.{first_found}
 use Rattle.flash_card.proofs.pages.Pages.first_page.Goals as goal
 
 pub returns : goal.returns
