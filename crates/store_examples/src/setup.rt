@@ -23,7 +23,7 @@ pub fn stores_made(left: u32) -> u32
 
 // A flat medium of as many blocks as there are bytes, each with its byte throughout.
 pub fn flat(heap: Global, bytes: &[u8], grant: u32) -> Result<FlatMedium, Fail>
-    ensures { IfOk result (λ medium. (medium.memory.items ≡ block_memory bytes.now) × (medium.count ≡ length bytes.now) × (medium.grant ≡ grant)) }
+    ensures { IfOk result (λ medium. (medium.layout.memory.items ≡ block_memory bytes.now) × (medium.count ≡ length bytes.now) × (medium.grant ≡ grant)) }
 {
     let memory = blocks(heap, bytes)?;
     let count = u32::try_from(bytes.len())?;
@@ -33,7 +33,7 @@ pub fn flat(heap: Global, bytes: &[u8], grant: u32) -> Result<FlatMedium, Fail>
 
 // A flash card with so many blocks over these pages.
 pub fn card(heap: Global, count: u32, over: &[Page], grant: u32) -> Result<FlashCard, Fail>
-    ensures { IfOk result (λ card. (card.pages.memory.items ≡ page_memory over.now) × (card.count ≡ count) × (card.grant ≡ grant) × (card.hand ≡ 0)) }
+    ensures { IfOk result (λ card. (card.layout.pages.memory.items ≡ page_memory over.now) × (card.count ≡ count) × (card.grant ≡ grant) × (card.layout.hand ≡ 0)) }
 {
     let memory = pages(heap, over)?;
     FlashCard::check(&memory, count)?;
