@@ -14,6 +14,7 @@ use store::BLOCK_BYTES;
 
 pub type FlatMedium = BlockMedium<Flat>;
 
+// The blocks one after the other.
 #[derive(Drop)]
 pub struct Flat {
     memory: Vec<u8>,

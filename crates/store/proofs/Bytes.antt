@@ -2,7 +2,6 @@
 use Rattle.std.proofs.Common.{◌≡◌, ℕ, ◌+◌, ◌-◌, ◌/◌, ◌<◌, ◌≤◌, ◌⊎◌, List, ◌++◌, length, take, drop, sym, refl, ap, ◌∙◌, ⊎_elim, arith, length-append, length-drop, length-take}
 use native.Mathlib.Nat.{div-div-eq-div-mul}
 use Rattle.std.proofs.lemmas.List.{take_at, drop_at, drop-drop, drop-append-le, take-append-le, drop-take, take-take}
-use borrow.Rule.Slice.PartMut.{put_mid}
 use Rattle.store.specs.Bytes.{part, placed, from_be32, to_be32}
 
 pub from_to_be32 : (n : ℕ) → n < 4294967296 → from_be32 (to_be32 n) ≡ n
@@ -60,20 +59,3 @@ module _ (bytes xs : List ℕ) (at : ℕ) (fits : at + length xs ≤ length byte
 
   pub part_elsewhere : (a n : ℕ) → (a + n ≤ at) ⊎ (at + length xs ≤ a) → part (placed bytes at xs) a n ≡ part bytes a n
   part_elsewhere a n e = ⊎_elim (before a n) (λ (h : at + length xs ≤ a). ap (take n) (drop_behind a h)) e
-
--- a part as the code cuts it out
-pub cut_part : (bytes ys xs : List ℕ) (at n : ℕ) → ys ≡ bytes → xs ≡ take ((at + n) - at) (drop at ys) → xs ≡ part bytes at n
-cut_part bytes ys xs at n v e =
-    e ∙ ap (λ k. take k (drop at ys)) (let z : (at + n) - at ≡ n = omega arith in z) ∙ ap (λ b. take n (drop at b)) v
-
--- a part as the code writes it
-pub put_part :
-    (bytes xs ys new : List ℕ) (at k size : ℕ) → length bytes ≡ size → at + length xs ≤ size → k ≡ length xs → ys ≡ bytes → new ≡ xs
-    → let put = put_mid at k ys new in take size (put ++ drop (length put) bytes) ≡ placed bytes at xs
-put_part bytes xs ys new at k size l h z v w =
-    let put = put_mid at k ys new in
-    let e : put ≡ placed bytes at xs =
-    rw (v, w, z) (ap (λ r. take at bytes ++ (xs ++ r)) (drop-drop (length xs) at bytes)) in
-    take_at put (drop (length put) bytes) size
-    (ap length e ∙ length_placed bytes xs at (rw l h) ∙ l)
-    ∙ e
