@@ -1,5 +1,5 @@
 -- What is to be shown of a kind of cache over one store, and what then holds of the cache.
-use Rattle.std.proofs.Common.{◌≡◌, ℕ, ◌<◌, true, ltb, List, [], length, Some, None, Ok, Option, sym, refl, ap, ◌∙◌, arith}
+use Rattle.std.proofs.Common.{◌≡◌, ℕ, ◌<◌, true, List, [], length, Some, None, Ok, Option, sym, refl, ap, ◌∙◌, arith}
 use Rattle.store.specs.Steps.{Content, Steps, Stepped, stepped, next}
 use Rattle.store.specs.Meaning.{Meaning, newest, last_of, added, Same}
 use Rattle.store.specs.Keeps.{Keeps, Moves}
@@ -8,7 +8,7 @@ use Rattle.store.proofs.Guards.{same_refl, Runs, guarding_keeps, guarded_keeps, 
 use Rattle.store.proofs.Lines.{added_thins, added_survives}
 use Rattle.store.proofs.Moving.{stays, moves_next, next_keeps}
 use Rattle.cache.specs.declared.Entry.{Entry}
-use Rattle.cache.specs.Entries.{waiting, over, sized, within}
+use Rattle.cache.specs.Entries.{waiting, sized, within}
 use Rattle.cache.specs.Kinds.{CacheModel, CacheKind, holding, cache_read, cache_force, cache_flush, cache_runs, cache_steps, cache_meaning, CacheGood, BlocksWithin}
 use Rattle.cache.specs.Preserves.{Preserves}
 use Rattle.cache.specs.WriteBack.{write_back, raised}

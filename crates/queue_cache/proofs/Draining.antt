@@ -1,5 +1,5 @@
 -- The search for a block's newest content, and the draining of a queue.
-use Rattle.std.proofs.Common.{◌≡◌, ℕ, Bool, true, false, cond, eqb, List, [], ◌∷◌, ◌++◌, reverse, find, option_map, length, not, ◌==◌, Some, None, Ok, Err, Option, sym, refl, ap, ◌∙◌, subst, arith}
+use Rattle.std.proofs.Common.{◌≡◌, ℕ, Bool, true, false, cond, eqb, List, [], ◌∷◌, reverse, find, option_map, length, not, ◌==◌, Some, None, Ok, Err, Option, sym, refl, ap, ◌∙◌, subst, arith}
 use Rattle.std.specs.Iterator.Adapters.{rev_source, rev_steps}
 use Rattle.std.specs.VecDeque.Iter.{deque_iter_rest, deque_iter_steps_back}
 use Rattle.std.specs.Option.{option_or}

@@ -161,7 +161,7 @@ sought (None ∷ slots) b = subst (Ready (found slots b) b) (sym (behind_one Non
 sought (Some e ∷ slots) b =
     ⊎_elim
     (λ (o : b ≡ e.block). rw (eq-eqb b e.block o) (sym o))
-    (λ (n : b ≡ e.block → ⊥). 
+    (λ (n : b ≡ e.block → ⊥).
     rw (ne_eqb b e.block n)
     (subst (Ready (found slots b) b) (sym (behind_one (Some e) slots (slot_of slots b))) (sought slots b)))
     (cases_eq b e.block)

@@ -1,11 +1,11 @@
 -- The table cache keeps a store's meaning over every store that does, and its slots hold only blocks below the count.
-use Rattle.std.specs.Prelude.{◌≡◌, ℕ, zero, suc, ◌<◌, ◌≤◌, false, ltb, [], ◌∷◌, length, set, Some, None, Ok, Option, ◌==◌, nat_lt, slice_index_or, slice_set, refl}
+use Rattle.std.specs.Prelude.{◌≡◌, ℕ, zero, suc, ◌<◌, ◌≤◌, false, ltb, ◌∷◌, length, set, Some, None, Ok, Option, ◌==◌, nat_lt, slice_index_or, slice_set, refl}
 use Rattle.std.proofs.Common.{sym, ◌∙◌, ap, length-set}
 use Rattle.std.proofs.Math.Logic.{⊎_elim}
 use Rattle.std.specs.Option.{option_map}
 use native.Mathlib.Omega.{arith}
 use Rattle.std.proofs.lemmas.Bool.{cond_both, cond-true, eq-eqb, lt-ltb, ltb-true, ltb-false, cases_lt}
-use Rattle.store.specs.Steps.{Content, Steps, Stepped, stepped, next}
+use Rattle.store.specs.Steps.{Steps, Stepped, stepped, next}
 use Rattle.store.specs.Meaning.{Meaning, last_of}
 use Rattle.store.specs.Keeps.{Keeps}
 use Rattle.store.proofs.Moving.{next_ok}
@@ -13,7 +13,7 @@ use Rattle.cache.specs.declared.Entry.{Entry}
 use Rattle.cache.specs.Kinds.{holding, BlocksWithin}
 use Rattle.cache.specs.Preserves.{Preserves}
 use Rattle.table_cache.specs.Table.{Table, TableModel, TableFits, TableGood, turned, with_slot, replaced, table_lookup, evict, evict_first, table_put, table_kind, table_steps, table_meaning}
-use Rattle.slot_table.specs.Slots.{place_for, slot_of, full}
+use Rattle.slot_table.specs.Slots.{place_for, slot_of}
 use Rattle.slot_table.proofs.Slots.{found, Free, Ready, emptied, apart_emptied, free_emptied, free_set, all_free, joined, apart_joined, struck, sought, place_ready, emptied_ready, placeless, vacated, every_set, sized_at}
 use Rattle.cache.proofs.Entries.{fits, fits_from}
 use Rattle.cache.proofs.Over.{Leaves}

@@ -19,7 +19,11 @@ impl QueueBuffer {
     fn latest(&self, block: u32) -> Option<[u8; 512]>
         ensures { result ≡ latest None (queue_held self.now) block }
     {
-        let newest = self.entries.iter().rev().find(|entry| block == entry.block)?;
+        let newest = self
+            .entries
+            .iter()
+            .rev()
+            .find(|entry| block == entry.block)?;
         Some(newest.content)
     }
 

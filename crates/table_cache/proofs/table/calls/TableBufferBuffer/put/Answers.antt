@@ -1,4 +1,4 @@
-use Rattle.std.proofs.Common.{◌≡◌, ◌+◌, ◌%◌, ◌<◌, length, get_or, set, Some, None, sym, ap, subst, arith}
+use Rattle.std.proofs.Common.{◌≡◌, ◌+◌, ◌%◌, ◌<◌, length, get_or, set, None, sym, ap, subst, arith}
 use Rattle.store.specs.Steps.{Stepped}
 use Rattle.table_cache.specs.Table.{TableModel}
 use Rattle.table_cache.specs.TableKeeps.{came_in}
