@@ -1,3 +1,5 @@
 pub mod Entries
 pub mod WriteBack
 pub mod Preserves
+pub mod Kinds
+pub mod Modeled

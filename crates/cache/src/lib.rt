@@ -1,4 +1,5 @@
-// What the caches have in common: an entry, and how one is written back to the store below.
+// What the write caches have in common: an entry, how one is written back to the store below, and the cache
+// itself, over what each kind holds.
 #![tactic(auto)]
 
 ghost use Rattle.std.specs.Prelude.{◌≡◌};
@@ -6,6 +7,12 @@ ghost use Rattle.store.specs.Steps.{stepped};
 ghost use Rattle.cache.specs.WriteBack.{write_back};
 
 use store::{Store, StoreError};
+
+mod buffer;
+mod write_cache;
+
+pub use buffer::Buffer;
+pub use write_cache::Cache;
 
 // A content held for a block.
 #[derive(Clone, Copy)]
@@ -18,11 +25,11 @@ pub struct Entry {
 pub fn write_back<S: Store>(below: &mut S, entry: Option<Entry>) -> Result<(), StoreError>
     ensures { stepped result (S.Store.model below.new) ≡ write_back S.Store.steps (S.Store.model below.old) entry }
 {
-    match entry {
-        None => Ok(()),
-        Some(entry) => match below.put_block(entry.block, &entry.content) {
-            Err(StoreError::PowerOff) => Err(StoreError::PowerOff),
-            _ => Ok(()),
-        },
+    let Some(entry) = entry else {
+        return Ok(());
+    };
+    match below.put_block(entry.block, &entry.content) {
+        Err(StoreError::NoSuchBlock) => Ok(()),
+        answer => answer,
     }
 }

@@ -1,20 +1,55 @@
--- The loops over a queue: the search for a block's newest content, and the draining.
-use Rattle.std.proofs.Common.{◌≡◌, ℕ, ◌+◌, ◌<◌, ◌≤◌, Bool, true, false, cond, eqb, List, [], ◌∷◌, length, get_or, drop, Some, Ok, Err, Option, sym, refl, ap, ◌∙◌}
-use Rattle.std.proofs.lemmas.List.{at_drop_more, at_drop_all}
-use Rattle.std.proofs.lemmas.Bool.{cond-true, cond-false, true≢false}
+-- The search for a block's newest content, and the draining of a queue.
+use Rattle.std.proofs.Common.{◌≡◌, ℕ, Bool, true, false, cond, eqb, List, [], ◌∷◌, reverse, find, option_map, length, not, ◌==◌, Some, None, Ok, Err, Option, sym, refl, ap, ◌∙◌, subst, arith}
+use Rattle.std.specs.Iterator.Adapters.{rev_source, rev_steps}
+use Rattle.std.specs.VecDeque.Iter.{deque_iter_rest, deque_iter_steps_back}
+use Rattle.std.specs.Option.{option_or}
+use Rattle.std.proofs.Math.ListN.{length-reverse}
+use Rattle.std.proofs.lemmas.Iterator.{YieldsList}
+use Rattle.std.proofs.lemmas.Iterator.Consumers.{YieldsList-from_shown}
+use Rattle.std.proofs.lemmas.List.{reverse-append}
+use Rattle.std.proofs.lemmas.List.Folds.{find-append}
+use Rattle.std.proofs.lemmas.Bool.{cond-true, cond-false, lt-ltb, ne_eqb, true≢false}
 use Rattle.store.specs.Steps.{Content, Steps, Stepped, stepped, next}
 use Rattle.cache.specs.declared.Entry.{Entry}
-use Rattle.queue_cache.specs.Queue.{QueueModel, queued, latest, evict_oldest, drain, drained}
+use Rattle.queue_cache.specs.Queue.{QueueModel, queued, latest, any, evict_oldest, drain, drained}
 
-pub latest_step :
-    (found : Option Content) (es : List Entry) (i b : ℕ) (e : Entry) → i < length es → e ≡ get_or es i e
-    → latest found (drop i es) b ≡ latest (cond (eqb b e.block) (Some e.content) found) (drop (i + 1) es) b
-latest_step found es i b e h at =
-    at_drop_more (λ es. latest found es b) es i e h
-    ∙ ap (λ (f : Entry). latest (cond (eqb b f.block) (Some f.content) found) (drop (i + 1) es) b) (sym at)
+-- the iterator of a queue, from its back
+pub yields_reversed : {A : Type 0} {s : _} (xs : List A) → deque_iter_rest (rev_source s) ≡ xs → YieldsList (rev_steps (deque_iter_steps_back {X = A})) (λ y. y.now) s (reverse xs)
+yields_reversed {A} {s} xs e =
+    subst (λ k. YieldsList (rev_steps (deque_iter_steps_back {X = A})) (λ y. y.now) s (reverse k)) e
+    (YieldsList-from_shown (rev_steps (deque_iter_steps_back {X = A})) (λ y. y.now) (λ u. reverse (deque_iter_rest (rev_source u)))
+    (λ u t p. length-reverse _ ∙ p.0)
+    (λ u x t p. ap reverse p ∙ reverse-append (deque_iter_rest (rev_source t)) (x.now ∷ []))
+    s)
 
-pub latest_end : (found : Option Content) (es : List Entry) (i b : ℕ) → length es ≤ i → latest found (drop i es) b ≡ found
-latest_end found es i b h = at_drop_all (λ es. latest found es b) es i h
+abbrev pub of_block : ℕ → Entry → Bool
+of_block b e = eqb b e.block
+
+abbrev pub content_of : Option Entry → Option Content
+content_of found = option_map (λ (e : Entry). e.content) found
+
+latest_from : (es : List Entry) (b : ℕ) (found : Option Content) → latest found es b ≡ option_or (content_of (find (of_block b) (reverse es))) found
+latest_from [] b found = refl
+latest_from (e ∷ es) b found =
+    latest_from es b (cond (eqb b e.block) (Some e.content) found)
+    ∙ one (find (of_block b) (reverse es)) (eqb b e.block)
+    ∙ sym (ap (λ f. option_or (content_of f) found) (ap (find (of_block b)) (reverse-append (e ∷ []) es) ∙ find-append (of_block b) (reverse es) (e ∷ [])))
+  where
+    one : (a : Option Entry) (t : Bool) → option_or (content_of a) (cond t (Some e.content) found) ≡ option_or (content_of (option_or a (cond t (Some e) None))) found
+    one None true = refl
+    one None false = refl
+    one (Some f) t = refl
+
+pub latest_find : (es : List Entry) (b : ℕ) → latest None es b ≡ content_of (find (of_block b) (reverse es))
+latest_find es b = latest_from es b None ∙ same (content_of (find (of_block b) (reverse es)))
+  where
+    same : (a : Option Content) → option_or a None ≡ a
+    same None = refl
+    same (Some x) = refl
+
+pub any_filled : (es : List Entry) → any es ≡ not (length es == 0)
+any_filled [] = refl
+any_filled (e ∷ es) = lt-ltb 0 (length (e ∷ es)) (omega arith) ∙ sym (ap not (ne_eqb (length (e ∷ es)) 0 (λ h. omega arith)))
 
 module _ {B : Type 0} (steps : Steps B) (wanted : List Entry → Bool) where
   pub drain_next :

@@ -1,2 +1,1 @@
 mod Draining
-mod QueueWithin

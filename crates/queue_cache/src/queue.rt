@@ -1,7 +1,7 @@
-// The queue cache's parts, and what is true of them.
-ghost use Rattle.std.specs.Prelude.{◌≡◌, ◌≤◌, true};
-ghost use Rattle.std.specs.VecDeque.{deque_len, deque_capacity};
-ghost use Rattle.cache.specs.Entries.{sized};
+// What a queue cache holds, and what is true of it.
+ghost use Rattle.std.specs.Prelude.{◌≤◌};
+ghost use Rattle.std.specs.VecDeque.{deque_capacity};
+ghost use Rattle.queue_cache.specs.Queue.{QueueFits};
 
 use cache::Entry;
 use std::collections::VecDeque;
@@ -9,11 +9,9 @@ use std::collections::VecDeque;
 pub mod calls;
 
 #[derive(Drop)]
-pub struct QueueCache<S> {
-    below: S,
+pub struct QueueBuffer {
     // oldest first; a block may stand here several times
     entries: VecDeque<Entry>,
-    ghost few: { deque_len entries ≤ 16 },
+    ghost fits: { QueueFits entries.items },
     ghost roomy: { 16 ≤ deque_capacity entries },
-    ghost fits: { sized entries.items ≡ true },
 }

@@ -1,11 +1,11 @@
 -- The slots of a table: what is held once one of them is emptied or filled.
-use Rattle.std.proofs.Common.{◌≡◌, ℕ, zero, suc, ◌+◌, ◌<◌, ◌≤◌, Bool, true, false, cond, eqb, ltb, ◌⊎◌, List, [], ◌∷◌, ◌++◌, length, get_or, drop, set, is_some, Some, None, Option, sym, refl, ap, ◌∙◌, inl, inr, ⊎_elim, append-nil, arith, length-append, length-set}
-use Rattle.std.proofs.lemmas.List.{at_drop_more, at_drop_all}
+use Rattle.std.proofs.Common.{◌≡◌, ℕ, zero, suc, ◌+◌, ◌<◌, ◌≤◌, Bool, true, false, cond, eqb, ltb, ◌⊎◌, List, [], ◌∷◌, ◌++◌, length, get_or, set, filter, is_some, Some, None, Option, sym, refl, ap, ◌∙◌, subst, inl, inr, ⊎_elim, append-nil, arith, length-append, length-set}
+use native.Mathlib.Numerals.{one-add}
 use Rattle.std.proofs.lemmas.Bool.{cond-true, cond-false, cond_both, eq-eqb, ne_eqb, ltb-true, ltb-false, cases_eq, cases_Bool}
 use Rattle.store.specs.Steps.{Content}
 use Rattle.cache.specs.declared.Entry.{Entry}
 use Rattle.cache.specs.Entries.{waiting, every, sized}
-use Rattle.slot_table.specs.Slots.{Slots, full, first_slot, slot_of, empty_slot, place_for, Apart}
+use Rattle.slot_table.specs.Slots.{Slots, full, slot_of, empty_slot, place_for, Apart}
 use Rattle.store.proofs.Lines.{thinned_refl, thinned_length}
 use Rattle.cache.proofs.Over.{Leaves, SizedEntry, Joined, Struck, struck_left}
 use Rattle.cache.proofs.Entries.{none_left, passes, every_head, every_tail, every_cons, fits, sized_entry}
@@ -151,14 +151,19 @@ module _ (slots : Slots) (i : ℕ) (e : Entry) (h : i < length slots) (apart : A
           }
       go (Some f) own left = rw (← own) (struck_left (found slots) (found (set slots i None)) f.block f.content left)
 
+behind_one : (slot : Option Entry) (slots : Slots) (n : ℕ) → get_or (slot ∷ slots) (1 + n) None ≡ get_or slots n None
+behind_one slot slots n = ap (λ i. get_or (slot ∷ slots) i None) (one-add n)
+
 -- where the search for block b ends
 pub sought : (slots : Slots) (b : ℕ) → Ready (found slots b) b (get_or slots (slot_of slots b) None)
 sought [] b = refl
-sought (None ∷ slots) b = sought slots b
+sought (None ∷ slots) b = subst (Ready (found slots b) b) (sym (behind_one None slots (slot_of slots b))) (sought slots b)
 sought (Some e ∷ slots) b =
     ⊎_elim
     (λ (o : b ≡ e.block). rw (eq-eqb b e.block o) (sym o))
-    (λ (n : b ≡ e.block → ⊥). rw (ne_eqb b e.block n) (sought slots b))
+    (λ (n : b ≡ e.block → ⊥).
+    rw (ne_eqb b e.block n)
+    (subst (Ready (found slots b) b) (sym (behind_one (Some e) slots (slot_of slots b))) (sought slots b)))
     (cases_eq b e.block)
 
 missing : (slots : Slots) (b : ℕ) → length slots ≤ slot_of slots b → found slots b ≡ []
@@ -169,7 +174,7 @@ missing (Some e ∷ slots) b h =
     (λ (o : b ≡ e.block). absurd (let z : slot_of (Some e ∷ slots) b ≡ 0 = rw (eq-eqb b e.block o) in omega arith))
     (λ (n : b ≡ e.block → ⊥).
     rw (ne_eqb b e.block n)
-    (missing slots b (let z : slot_of (Some e ∷ slots) b ≡ suc (slot_of slots b) = rw (ne_eqb b e.block n) in omega arith)))
+    (missing slots b (let z : slot_of (Some e ∷ slots) b ≡ 1 + slot_of slots b = rw (ne_eqb b e.block n) in omega arith)))
     (cases_eq b e.block)
 
 ready_free : (slot : Option Entry) (xs : List Content) (b : ℕ) → Free slot → xs ≡ [] → Ready xs b slot
@@ -179,7 +184,7 @@ ready_free (Some e) xs b free none = absurd free
 empty_free : (slots : Slots) → Free (get_or slots (empty_slot slots) None)
 empty_free [] = tt
 empty_free (None ∷ slots) = tt
-empty_free (Some e ∷ slots) = empty_free slots
+empty_free (Some e ∷ slots) = subst Free (sym (behind_one (Some e) slots (empty_slot slots))) (empty_free slots)
 
 pub place_ready : (slots : Slots) (b : ℕ) → Ready (found slots b) b (get_or slots (place_for slots b) None)
 place_ready slots b =
@@ -236,33 +241,8 @@ all_free [] h k = refl
 all_free (None ∷ slots) h k = all_free slots (λ j l. h (suc j) (omega arith)) k
 all_free (Some e ∷ slots) h k = absurd (h 0 (omega arith))
 
--- a search through the slots, step by step
-module _ (test : Option Entry → Bool) (slots : Slots) (i : ℕ) where
-  module _ (slot : Option Entry) (h : i < length slots) (at : slot ≡ get_or slots i slot) where
-    first_step : first_slot test (drop i slots) ≡ cond (test slot) 0 (suc (first_slot test (drop (i + 1) slots)))
-    first_step = at_drop_more (first_slot test) slots i slot h ∙ ap (λ s. cond (test s) 0 (suc (first_slot test (drop (i + 1) slots)))) (sym at)
-
-    pub first_here : test slot ≡ true → first_slot test (drop i slots) ≡ 0
-    first_here t = first_step ∙ cond-true (test slot) 0 (suc (first_slot test (drop (i + 1) slots))) t
-
-    pub first_later : test slot ≡ false → first_slot test (drop i slots) ≡ suc (first_slot test (drop (i + 1) slots))
-    first_later t = first_step ∙ cond-false (test slot) 0 (suc (first_slot test (drop (i + 1) slots))) t
-
-  pub first_none : length slots ≤ i → first_slot test (drop i slots) ≡ 0
-  first_none h = at_drop_all (first_slot test) slots i h
-
--- counting the full slots, step by step
-pub full_step :
-    (slots : Slots) (i : ℕ) (slot : Option Entry) → i < length slots → slot ≡ get_or slots i slot
-    → length (full (drop i slots)) ≡ cond (is_some slot) 1 0 + length (full (drop (i + 1) slots))
-full_step slots i slot h at =
-    at_drop_more (λ slots. length (full slots)) slots i slot h
-    ∙ ap (λ s. length (full (s ∷ drop (i + 1) slots))) (sym at)
-    ∙ here slot
-  where
-    here : (s : Option Entry) → length (full (s ∷ drop (i + 1) slots)) ≡ cond (is_some s) 1 0 + length (full (drop (i + 1) slots))
-    here None = omega arith
-    here (Some e) = omega arith
-
-pub full_end : (slots : Slots) (i : ℕ) → length slots ≤ i → length (full (drop i slots)) ≡ 0
-full_end slots i h = at_drop_all (λ slots. length (full slots)) slots i h
+-- the full slots are those with an entry
+pub full_count : (slots : Slots) → length (filter is_some slots) ≡ length (full slots)
+full_count [] = refl
+full_count (None ∷ slots) = full_count slots
+full_count (Some e ∷ slots) = ap suc (full_count slots)

@@ -1,5 +1,6 @@
 -- The slots of a table: each is empty or holds an entry.
-use Rattle.std.specs.Prelude.{ℕ, suc, ◌≤◌, Bool, false, cond, not, List, [], ◌∷◌, length, is_some, Some, None, Option, ◌==◌, nat_lt}
+use Rattle.std.specs.Prelude.{ℕ, ◌≤◌, Bool, false, cond, List, [], ◌∷◌, length, is_none, Some, None, Option, ◌==◌, nat_lt}
+use Rattle.std.specs.List.{position_or_len}
 use Rattle.store.specs.Places.{if_below}
 use Rattle.cache.specs.declared.Entry.{Entry}
 use Rattle.cache.specs.Entries.{waiting}
@@ -13,11 +14,6 @@ full [] = []
 full (None ∷ slots) = full slots
 full (Some e ∷ slots) = e ∷ full slots
 
--- the place of the first slot that passes a test, or the number of slots
-abbrev pub first_slot : (Option Entry → Bool) → Slots → ℕ
-first_slot test [] = 0
-first_slot test (slot ∷ slots) = cond (test slot) 0 (suc (first_slot test slots))
-
 -- place i, if the table has it
 abbrev pub at_place : Slots → ℕ → Option ℕ
 at_place slots i = if_below (length slots) i
@@ -28,11 +24,11 @@ has_block b (Some e) = b == e.block
 
 -- the place of block b's slot, or the number of slots
 abbrev pub slot_of : Slots → ℕ → ℕ
-slot_of slots b = first_slot (has_block b) slots
+slot_of slots b = position_or_len (has_block b) slots
 
 -- the place of the first empty slot, or the number of slots
 abbrev pub empty_slot : Slots → ℕ
-empty_slot slots = first_slot (λ slot. not (is_some slot)) slots
+empty_slot slots = position_or_len is_none slots
 
 -- where a content for block b goes if no slot has to be written back: its own slot, else the first empty one
 abbrev pub place_for : Slots → ℕ → ℕ

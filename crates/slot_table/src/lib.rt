@@ -25,64 +25,42 @@ impl SlotTable {
     pub fn new(heap: Global) -> Result<SlotTable, AllocError>
         ensures { IfOk result (λ t. (t.slots.items ≡ replicate 8 None) × (t.hand ≡ 0)) }
     {
-        let slots = vec![in heap; None; 8]?;
+        let slots = vec![in heap; None; SLOTS]?;
         Ok(SlotTable { slots, hand: 0 })
     }
 
     pub fn count_full(&self) -> usize
         ensures { result ≡ length (full self.now.slots.items) }
     {
-        let mut count = 0;
-        for i in 0..self.slots.len() {
-            if self.slots[i].is_some() {
-                count += 1;
-            }
-        }
-        count
+        self.slots.iter().filter(|slot| slot.is_some()).count()
     }
 
     // The place of the block's slot.
     pub fn slot_of(&self, block: u32) -> Option<usize>
         ensures { result ≡ at_place self.now.slots.items (slot_of self.now.slots.items block) }
     {
-        for i in 0..self.slots.len() {
-            if has_block(&self.slots[i], block) {
-                return Some(i);
-            }
-        }
-        None
+        self.slots.iter().position(|slot| has_block(slot, block))
     }
 
     // The place of the first empty slot.
     pub fn empty_slot(&self) -> Option<usize>
         ensures { result ≡ at_place self.now.slots.items (empty_slot self.now.slots.items) }
     {
-        for i in 0..self.slots.len() {
-            if self.slots[i].is_none() {
-                return Some(i);
-            }
-        }
-        None
+        self.slots.iter().position(Option::is_none)
     }
 
     // The block's slot, empty if it has none.
     pub fn lookup(&self, block: u32) -> Option<Entry>
         ensures { result ≡ slice_index_or self.now.slots.items (slot_of self.now.slots.items block) None }
     {
-        match self.slot_of(block) {
-            Some(place) => self.slots[place],
-            None => None,
-        }
+        self.slots[self.slot_of(block)?]
     }
 
     // Where a content for the block goes if no slot has to be written back: its own slot, else the first empty one.
     pub fn place_for(&self, block: u32) -> Option<usize>
         ensures { result ≡ at_place self.now.slots.items (place_for self.now.slots.items block) }
     {
-        match self.slot_of(block) {
-            Some(place) => Some(place),
-            None => self.empty_slot(),
-        }
+        self.slot_of(block).or_else(|| self.empty_slot())
     }
 
     // One slot, lent to be replaced or emptied.
@@ -98,8 +76,5 @@ impl SlotTable {
 fn has_block(slot: &Option<Entry>, block: u32) -> bool
     ensures { result ≡ has_block block slot.now }
 {
-    match slot {
-        None => false,
-        Some(entry) => block == entry.block,
-    }
+    slot.is_some_and(|entry| block == entry.block)
 }

@@ -42,7 +42,7 @@ pub fn card(heap: Global, count: u32, over: &[Page], grant: u32) -> Result<Flash
 
 // An empty table cache over the store below.
 pub fn table<S: Store + Drop>(heap: Global, below: S) -> Result<TableCache<S>, Fail>
-    ensures { IfOk result (λ cache. (cache.below ≡ below) × (cache.table.slots.items ≡ replicate 8 None) × (cache.table.hand ≡ 0)) }
+    ensures { IfOk result (λ cache. (cache.below ≡ below) × (cache.held.table.slots.items ≡ replicate 8 None) × (cache.held.table.hand ≡ 0)) }
 {
     match TableCache::new(heap, below) {
         Ok(cache) => Ok(cache),
@@ -52,7 +52,7 @@ pub fn table<S: Store + Drop>(heap: Global, below: S) -> Result<TableCache<S>, F
 
 // An empty queue cache over the store below.
 pub fn queue<S: Store + Drop>(heap: Global, below: S) -> Result<QueueCache<S>, Fail>
-    ensures { IfOk result (λ cache. (cache.below ≡ below) × (cache.entries.items ≡ [])) }
+    ensures { IfOk result (λ cache. (cache.below ≡ below) × (cache.held.entries.items ≡ [])) }
 {
     match QueueCache::new(heap, below) {
         Ok(cache) => Ok(cache),

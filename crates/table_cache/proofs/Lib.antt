@@ -1,2 +1,1 @@
-mod TableWithin
 mod Evicting

@@ -1,18 +1,13 @@
-// The table cache's parts, and what is true of them.
-ghost use Rattle.std.specs.Prelude.{◌≡◌, ◌<◌, true, vec_len};
-ghost use Rattle.cache.specs.Entries.{sized};
-ghost use Rattle.slot_table.specs.Slots.{Apart, full};
+// What a table cache holds, and what is true of it.
+ghost use Rattle.std.specs.Prelude.{vec_items};
+ghost use Rattle.table_cache.specs.Table.{TableFits};
 
 use slot_table::SlotTable;
 
 pub mod calls;
 
 #[derive(Drop)]
-pub struct TableCache<S> {
-    below: S,
+pub struct TableBuffer {
     table: SlotTable,
-    ghost eight: { vec_len table.slots ≡ 8 },
-    ghost apart: { Apart table.slots.items },
-    ghost fits: { sized (full table.slots.items) ≡ true },
-    ghost round: { table.hand < 8 },
+    ghost fits: { TableFits (record { slots = vec_items table.slots; hand = table.hand }) },
 }

@@ -21,7 +21,7 @@ abbrev pub zero_blocks : ℕ → FlatModel
 zero_blocks grant = record { bytes = replicate 5120 0; count = 10; grant = grant }
 
 abbrev pub empty_table : ℕ → TableModel FlatModel
-empty_table grant = record { below = zero_blocks grant; slots = replicate 8 None; hand = 0 }
+empty_table grant = record { below = zero_blocks grant; held = record { slots = replicate 8 None; hand = 0 } }
 
 abbrev pub empty_queue : ℕ → QueueModel FlatModel
 empty_queue grant = queued [] (zero_blocks grant)
