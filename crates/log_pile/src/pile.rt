@@ -24,7 +24,8 @@ pub enum NoMemory {
 
 // Empty caches over the card.
 pub fn pile_over(heap: Global, card: FlashCard) -> Result<Pile, NoMemory>
-    ensures { IfOk result (λ pile. pile_model pile ≡ empty_over (card_model card)) }
+    ensures over { IfOk result (λ pile. pile.below.below ≡ card) }
+    ensures empty { IfOk result (λ pile. pile_model pile ≡ empty_over (card_model card)) }
 {
     let queue = QueueCache::new(heap, card).map_err(|_| NoMemory::QueueCache)?;
     TableCache::new(heap, queue).map_err(|_| NoMemory::TableCache)
