@@ -1,62 +1,90 @@
 // What a run did, in lines to read.
-use anyhow::anyhow;
 use flash_card::FlashCard;
+use log_pile::{Remains, reopened};
 use shift_log::{LOG_BLOCKS, Outcome, Record, Shift};
+use std::fmt;
 use store::Store;
 
 // so many seconds with a brake action are listed
-const LISTED: u32 = 12;
+const LISTED: usize = 12;
 
 // What was put in the seconds that were recorded whole, and how the recording ended.
-pub fn print_put(rt: &HostRuntime, shift: Shift, outcome: Outcome) -> anyhow::Result<()> {
-    let seconds = outcome.seconds;
-    println!(rt; "  put           {seconds} seconds whole, an encoder block each")?;
-    print_brake_actions(rt, shift, seconds)?;
-    if outcome.answer.is_ok() {
-        println!(rt; "  ended         with a flush")?;
-    } else if seconds < shift.seconds {
-        println!(rt; "  ended         power lost in second {seconds}")?;
-    } else {
-        println!(rt; "  ended         power lost in the flush")?;
-    }
-    Ok(())
+#[derive(Clone, Copy)]
+pub struct Recording {
+    pub shift: Shift,
+    pub outcome: Outcome,
 }
 
-// The brake actions of the first seconds.
-fn print_brake_actions(rt: &HostRuntime, shift: Shift, seconds: u32) -> anyhow::Result<()> {
-    print!(rt; "                two brake blocks in seconds")?;
-    let mut actions = 0u32;
-    for second in 0..seconds {
-        if shift.brakes_at(second) {
-            if actions < LISTED {
-                print!(rt; " {second}")?;
+impl Recording {
+    // Writes the seconds with a brake action: the first of them, and how many more there are.
+    fn write_brake_actions<W: fmt::Write>(&self, f: &mut fmt::Formatter<W>) -> fmt::Result {
+        let shift = self.shift;
+        let actions = (0..self.outcome.seconds).filter(|&second| shift.brakes_at(second));
+        let mut count = 0usize;
+        for second in actions {
+            if count < LISTED {
+                write!(f, " {second}")?;
             }
-            actions = actions.saturating_add(1);
+            count = count.saturating_add(1);
+        }
+        if count == 0 {
+            write!(f, " (none)")?;
+        } else if count > LISTED {
+            write!(f, " and {} more", count - LISTED)?;
+        }
+        Ok(())
+    }
+}
+
+impl fmt::Display for Recording {
+    fn fmt<W: fmt::Write>(&self, f: &mut fmt::Formatter<W>) -> fmt::Result {
+        let Outcome { seconds, answer } = self.outcome;
+        writeln!(
+            f,
+            "  put           {seconds} seconds whole, an encoder block each"
+        )?;
+        write!(f, "                two brake blocks in seconds")?;
+        self.write_brake_actions(f)?;
+        writeln!(f)?;
+        match answer {
+            Ok(()) => write!(f, "  ended         with a flush"),
+            Err(_) if seconds < self.shift.seconds => {
+                write!(f, "  ended         power lost in second {seconds}")
+            }
+            Err(_) => write!(f, "  ended         power lost in the flush"),
         }
     }
-    if actions > LISTED {
-        let more = actions - LISTED;
-        print!(rt; " and {more} more")?;
-    } else if actions == 0 {
-        print!(rt; " (none)")?;
+}
+
+// What the caches held at the end.
+#[derive(Clone, Copy)]
+pub struct Held<'a>(pub &'a Remains);
+
+impl fmt::Display for Held<'_> {
+    fn fmt<W: fmt::Write>(&self, f: &mut fmt::Formatter<W>) -> fmt::Result {
+        let Remains {
+            power,
+            in_table,
+            in_queue,
+            ..
+        } = self.0;
+        if *power {
+            write!(f, "{in_table} in the table, {in_queue} in the queue")
+        } else {
+            write!(
+                f,
+                "nothing: {in_table} in the table and {in_queue} in the queue went with the power"
+            )
+        }
     }
-    println!(rt; "")?;
-    Ok(())
 }
 
 // What the next power-on would find on the card, block by block.
-pub fn print_medium(rt: &HostRuntime, memory: Vec<u8>) -> anyhow::Result<()> {
-    if FlashCard::check(&memory, LOG_BLOCKS).is_err() {
-        return Err(anyhow!("the memory is too small for the card"));
-    }
-    let mut card = FlashCard::new(memory, LOG_BLOCKS, 1);
+pub fn print_medium(rt: &HostRuntime, card: FlashCard) -> anyhow::Result<()> {
+    let mut card = reopened(card);
     println!(rt; "  on the card")?;
     for block in 0..LOG_BLOCKS {
-        let found = match card.read_block(block) {
-            Ok(content) => Record::from_content(&content),
-            Err(_) => None,
-        };
-        match found {
+        match Record::from_content(&card.read_block(block)?) {
             Some(record) => println!(rt; "    block {block:>2}    {record}")?,
             None => println!(rt; "    block {block:>2}    no record")?,
         }

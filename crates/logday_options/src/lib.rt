@@ -3,7 +3,7 @@
 
 ghost use Rattle.std.specs.Prelude.{◌≡◌, ◌≤◌, IfSome, IfOk, None, Ok};
 
-use anyhow::anyhow;
+use anyhow::{anyhow, ensure};
 use shift_log::Shift;
 use std::env::Args;
 
@@ -26,20 +26,17 @@ impl Options {
         ensures { IfOk result (λ o. IfSome o (λ p. p.shift.seconds ≤ 86400)) }
     {
         let first = words.next();
-        if let Some(word) = &first {
-            if word.as_str() == "--help" {
-                return Ok(None);
-            }
+        if first.as_ref().is_some_and(|word| word.as_str() == "--help") {
+            return Ok(None);
         }
         let seconds = number(first, 24)?;
         let brake_every = number(words.next(), 8)?;
         let stores = number(words.next(), 12)?;
-        if words.next().is_some() {
-            return Err(anyhow!("too many arguments; logday --help tells what it takes"));
-        }
-        if seconds > DAY {
-            return Err(anyhow!("a shift lasts at most 86400 seconds"));
-        }
+        ensure!(
+            words.next().is_none(),
+            "too many arguments; logday --help tells what it takes"
+        );
+        ensure!(seconds <= DAY, "a shift lasts at most 86400 seconds");
         Ok(Some(Options {
             shift: Shift {
                 seconds,
@@ -57,12 +54,9 @@ fn number(word: Option<String>, default: u32) -> anyhow::Result<u32>
     let Some(word) = word else {
         return Ok(default);
     };
-    match word.as_str().parse::<u32>() {
-        Ok(value) => Ok(value),
-        Err(_) => Err(anyhow!(
-            "an argument is no number from 0 to 4294967295; logday --help tells what it takes"
-        )),
-    }
+    word.as_str().parse().map_err(|_| {
+        anyhow!("an argument is no number from 0 to 4294967295; logday --help tells what it takes")
+    })
 }
 
 #[cfg(test)]

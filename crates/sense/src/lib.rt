@@ -4,6 +4,8 @@
 ghost use Rattle.std.specs.Prelude.{◌≡◌};
 ghost use Rattle.sense.specs.Report.{attention_codes, report};
 
+mod display;
+
 // A unit attention, the highest first: a pending one yields only to a higher one.
 #[derive(Clone, Copy, PartialEq, Eq, Debug)]
 pub enum Attention {

@@ -9,7 +9,7 @@ use Rattle.store.proofs.Answers.{lost_answer}
 use Rattle.store.proofs.Lines.{thins_followed, survives_followed}
 use Rattle.store.proofs.Moving.{moves_both, next_keeps, stays}
 use Rattle.store.proofs.Guards.{same_refl}
-use Rattle.shift_log.specs.declared.record.Kind.TheVariants.{Encoder, BrakeCommand, BrakePressure}
+use Rattle.shift_log.specs.declared.kind.Kind.TheVariants.{Encoder, BrakeCommand, BrakePressure}
 use Rattle.shift_log.specs.declared.record.Record.{Record}
 use Rattle.shift_log.specs.Records.{brakes_at, encoded}
 use Rattle.shift_log.specs.Recording.{Call, then_run, run, put_to, puts, put_record, brake_calls, second_calls, seconds_steps, shift_steps, shift_put_to, shift_puts}

@@ -2,7 +2,7 @@
 use Rattle.std.specs.Prelude.{◌≡◌, ℕ, ◌+◌, ◌-◌, ◌<◌, ◌≤◌, [], ◌++◌}
 use Rattle.store.specs.Steps.{Answer, number}
 use Rattle.store.specs.Meaning.{Meaning, Among, contents, last_of, newest, held}
-use Rattle.shift_log.specs.declared.record.Kind.TheVariants.{BrakeCommand, BrakePressure}
+use Rattle.shift_log.specs.declared.kind.Kind.TheVariants.{BrakeCommand, BrakePressure}
 use Rattle.shift_log.specs.Records.{encoded}
 use Rattle.shift_log.specs.Recording.{shift_put_to, shift_puts}
 

@@ -2,8 +2,8 @@
 use Rattle.std.specs.Prelude.{ℕ, zero, suc, ◌+◌, cond, List, [], ◌∷◌, ◌++◌, Ok, Err, ◌==◌}
 use Rattle.store.specs.Steps.{Content, Steps, Stepped, stepped, next}
 use Rattle.store.specs.Sequence.{in_turn}
-use Rattle.shift_log.specs.declared.record.Kind.{Kind}
-use Rattle.shift_log.specs.declared.record.Kind.TheVariants.{Encoder, BrakeCommand, BrakePressure}
+use Rattle.shift_log.specs.declared.kind.Kind.{Kind}
+use Rattle.shift_log.specs.declared.kind.Kind.TheVariants.{Encoder, BrakeCommand, BrakePressure}
 use Rattle.shift_log.specs.declared.record.Record.{Record}
 use Rattle.shift_log.specs.Records.{brakes_at, block_of, encoded}
 

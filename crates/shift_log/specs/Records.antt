@@ -1,9 +1,10 @@
 -- Log records: the block that each goes to, and how it stands there.
-use Rattle.std.specs.Prelude.{ℕ, ◌-◌, ◌/◌, ◌%◌, Bool, false, cond, List, [], ◌∷◌, replicate, Some, None, Option, ◌==◌}
+use Rattle.std.specs.Prelude.{◌≡◌, ℕ, ◌-◌, ◌/◌, ◌%◌, Bool, false, cond, List, [], ◌∷◌, replicate, Some, None, Option, Result, MatchResult, ◌==◌}
 use Rattle.store.specs.Bytes.{from_be32}
 use Rattle.store.specs.Steps.{Content}
-use Rattle.shift_log.specs.declared.record.Kind.{Kind}
-use Rattle.shift_log.specs.declared.record.Kind.TheVariants.{Encoder, BrakeCommand, BrakePressure}
+use Rattle.shift_log.specs.declared.kind.Kind.{Kind}
+use Rattle.shift_log.specs.declared.kind.Kind.TheVariants.{Encoder, BrakeCommand, BrakePressure}
+use Rattle.shift_log.specs.declared.kind.UnknownKind.{UnknownKind}
 use Rattle.shift_log.specs.declared.record.Record.{Record}
 
 -- the brake acts in the last of `every` seconds; 0: never
@@ -36,6 +37,10 @@ encoded r =
 
 abbrev pub kind_of : ℕ → Option Kind
 kind_of code = cond (code == 1) (Some Encoder) (cond (code == 2) (Some BrakeCommand) (cond (code == 3) (Some BrakePressure) None))
+
+-- the kind with this code, or the code back if no kind has it
+abbrev pub IsKindOf : ℕ → Result Kind UnknownKind → Type 0
+IsKindOf code r = MatchResult r (λ kind. kind_of code ≡ Some kind) (λ e. (kind_of code ≡ None) × (e.0 ≡ code))
 
 abbrev pub record_of : Option Kind → ℕ → Option Record
 record_of None second = None

@@ -2,10 +2,12 @@
 // which are forced to the medium, and a flush at the end.
 #![tactic(auto)]
 
+pub mod kind;
 pub mod record;
 pub mod recorder;
 pub mod shift;
 
-pub use record::{Kind, LOG_BLOCKS, Record};
+pub use kind::{Kind, UnknownKind};
+pub use record::{LOG_BLOCKS, Record};
 pub use recorder::{Outcome, record_brake, record_second, record_shift};
 pub use shift::Shift;

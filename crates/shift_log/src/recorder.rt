@@ -5,7 +5,8 @@ ghost use Rattle.shift_log.specs.Records.{block_of, encoded};
 ghost use Rattle.shift_log.specs.Recording.{run, brake_calls, second_calls, shift_steps, seconds_recorded};
 ghost use Rattle.shift_log.specs.Recorded.{BrakeOnMedium, Recorded};
 
-use crate::record::{BRAKE_COMMAND_BLOCK, BRAKE_PRESSURE_BLOCK, Kind, Record};
+use crate::kind::Kind;
+use crate::record::{BRAKE_COMMAND_BLOCK, BRAKE_PRESSURE_BLOCK, Record};
 use crate::shift::Shift;
 use store::{Store, StoreError};
 

@@ -2,10 +2,12 @@
 ghost use Rattle.std.specs.Prelude.{◌≡◌};
 ghost use Rattle.shift_log.specs.Records.{brakes_at};
 
+use std::fmt;
+
 #[derive(Clone, Copy, PartialEq, Eq, Debug)]
 pub struct Shift {
     pub seconds: u32,
-    // the brake acts in the last of so many seconds; 0: never
+    // the brake acts in the last of so many seconds; 0: never (a number, since the theorems on recordings speak of it)
     pub brake_every: u32,
 }
 
@@ -14,9 +16,20 @@ impl Shift {
     pub fn brakes_at(self, second: u32) -> bool
         ensures { result ≡ brakes_at self.brake_every second }
     {
-        if self.brake_every == 0 {
-            return false;
+        self.brake_every != 0 && second % self.brake_every == self.brake_every - 1
+    }
+}
+
+impl fmt::Display for Shift {
+    fn fmt<W: fmt::Write>(&self, f: &mut fmt::Formatter<W>) -> fmt::Result {
+        let Shift {
+            seconds,
+            brake_every,
+        } = *self;
+        write!(f, "a shift of {seconds} seconds, ")?;
+        match brake_every {
+            0 => write!(f, "no brake action"),
+            _ => write!(f, "a brake action every {brake_every}"),
         }
-        second % self.brake_every == self.brake_every - 1
     }
 }

@@ -3,19 +3,9 @@
 
 ghost use Rattle.std.specs.Prelude.{◌≡◌, replicate};
 
-#[cfg(test)]
-mod caches;
-#[cfg(test)]
-mod calls;
-#[cfg(test)]
-mod card_pages;
-#[cfg(test)]
-mod media;
 pub mod memory;
 #[cfg(test)]
-mod pile;
-#[cfg(test)]
-mod setup;
+mod tests;
 
 // A content of one byte throughout.
 pub fn filled(byte: u8) -> [u8; 512]

@@ -1,6 +1,6 @@
 use Rattle.std.proofs.Common.{◌≡◌, sym, ap, ◌∙◌, subst}
 use Rattle.store.specs.Steps.{Stepped, stepped, next}
-use Rattle.shift_log.specs.declared.record.Kind.TheVariants.{BrakePressure}
+use Rattle.shift_log.specs.declared.kind.Kind.TheVariants.{BrakePressure}
 use Rattle.shift_log.specs.Recording.{called, run, put_record, brake_calls}
 use Rattle.shift_log.specs.Recording.Call.{force}
 use Rattle.shift_log.specs.Recorded.{BrakeOnMedium}

@@ -3,7 +3,7 @@ use Rattle.std.proofs.lemmas.Result.{err_from_is_err_and}
 use Rattle.store.specs.Steps.{Stepped}
 use Rattle.shift_log.specs.Records.{brakes_at}
 use Rattle.shift_log.specs.Recording.{called, then_run, put_record, brake_calls}
-use Rattle.shift_log.specs.declared.record.Kind.TheVariants.{Encoder}
+use Rattle.shift_log.specs.declared.kind.Kind.TheVariants.{Encoder}
 use Rattle.shift_log.proofs.Runs.{run_failed}
 use Rattle.shift_log.proofs.recorder.record_second.Goals as goal
 

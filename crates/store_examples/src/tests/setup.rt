@@ -1,15 +1,12 @@
-// Media and caches for the tests.
-ghost use Rattle.std.specs.Prelude.{◌≡◌, ◌-◌, [], length, replicate, IfOk, None};
+// Media for the tests.
+ghost use Rattle.std.specs.Prelude.{◌≡◌, ◌-◌, length, IfOk};
 ghost use Rattle.store_examples.specs.Memory.{block_memory, page_memory};
 
 use crate::memory::{Page, blocks, pages};
 use flash_card::FlashCard;
 use flat_medium::FlatMedium;
-use queue_cache::QueueCache;
 use std::alloc::Global;
 use std::test::Fail;
-use store::Store;
-use table_cache::TableCache;
 
 // A grant of more stores than a test makes.
 pub const GRANT: u32 = 100;
@@ -38,24 +35,4 @@ pub fn card(heap: Global, count: u32, over: &[Page], grant: u32) -> Result<Flash
     let memory = pages(heap, over)?;
     FlashCard::check(&memory, count)?;
     Ok(FlashCard::new(memory, count, grant))
-}
-
-// An empty table cache over the store below.
-pub fn table<S: Store + Drop>(heap: Global, below: S) -> Result<TableCache<S>, Fail>
-    ensures { IfOk result (λ cache. (cache.below ≡ below) × (cache.held.table.slots.items ≡ replicate 8 None) × (cache.held.table.hand ≡ 0)) }
-{
-    match TableCache::new(heap, below) {
-        Ok(cache) => Ok(cache),
-        Err(_) => Err(Fail::new("no memory for the table")),
-    }
-}
-
-// An empty queue cache over the store below.
-pub fn queue<S: Store + Drop>(heap: Global, below: S) -> Result<QueueCache<S>, Fail>
-    ensures { IfOk result (λ cache. (cache.below ≡ below) × (cache.held.entries.items ≡ [])) }
-{
-    match QueueCache::new(heap, below) {
-        Ok(cache) => Ok(cache),
-        Err(_) => Err(Fail::new("no memory for the queue")),
-    }
 }

@@ -1,22 +1,11 @@
 // A table over a queue over a card: power that is lost in a write-back ends the call at once.
-ghost use Rattle.std.specs.Prelude.{◌≡◌, IfOk};
-
-use crate::calls::*;
+use super::calls::*;
+use super::setup::*;
 use crate::filled;
 use crate::memory::*;
-use crate::setup::*;
-use flash_card::FlashCard;
-use queue_cache::QueueCache;
-use std::alloc::Global;
+use log_pile::pile_over;
 use std::test::Fail;
 use store::{Store, answer_number};
-use table_cache::TableCache;
-
-fn pile_over(heap: Global, card: FlashCard) -> Result<TableCache<QueueCache<FlashCard>>, Fail>
-    ensures { IfOk result (λ pile. pile.below.below ≡ card) }
-{
-    table(heap, queue(heap, card)?)
-}
 
 // With all slots and places full, a put sends one entry from the table to the queue, and one on to the card.
 #[test]

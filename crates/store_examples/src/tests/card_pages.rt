@@ -1,7 +1,7 @@
 // The pages of the flash card: which one a block shows, which one a put takes, and which become free.
+use super::setup::*;
 use crate::filled;
 use crate::memory::*;
-use crate::setup::*;
 use flash_card::FlashCard;
 use std::alloc::Global;
 use std::test::Fail;

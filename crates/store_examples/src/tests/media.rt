@@ -1,8 +1,8 @@
 // The media: what they are made over, what they refuse, and the last store of their grant.
-use crate::calls::*;
+use super::calls::*;
+use super::setup::*;
 use crate::filled;
 use crate::memory::*;
-use crate::setup::*;
 use flash_card::FlashCard;
 use flat_medium::FlatMedium;
 use medium::check_number;

@@ -1,16 +1,18 @@
 // The caches over a flat medium: what waits in them, and what they write back, in which order.
-use crate::calls::*;
+use super::calls::*;
+use super::setup::*;
 use crate::filled;
 use crate::memory::blocks;
-use crate::setup::*;
+use queue_cache::QueueCache;
 use std::test::Fail;
 use store::Store;
+use table_cache::TableCache;
 
 // With power and without.
 #[test]
 fn table_has_no_block_past_the_last(rt: HostRuntime) -> Result<(), Fail> {
     for grant in [GRANT, 0] {
-        let mut cache = table(rt.alloc(), flat(rt.alloc(), &[1, 2], grant)?)?;
+        let mut cache = TableCache::new(rt.alloc(), flat(rt.alloc(), &[1, 2], grant)?)?;
         block_answers(&mut cache, 2, NO_SUCH_BLOCK)?;
         assert_eq!(rt; cache.pending(), 0);
         let medium = cache.into_below();
@@ -23,7 +25,7 @@ fn table_has_no_block_past_the_last(rt: HostRuntime) -> Result<(), Fail> {
 // The ninth block takes the slot of block 0.
 #[test]
 fn table_evicts_the_slot_at_the_hand(rt: HostRuntime) -> Result<(), Fail> {
-    let mut cache = table(rt.alloc(), flat(rt.alloc(), &[0; 10], GRANT)?)?;
+    let mut cache = TableCache::new(rt.alloc(), flat(rt.alloc(), &[0; 10], GRANT)?)?;
     put_in_turn(&mut cache, 9)?;
     assert_eq!(rt; cache.pending(), 8);
     let after = [1, 0, 0, 0, 0, 0, 0, 0, 0, 0];
@@ -33,7 +35,7 @@ fn table_evicts_the_slot_at_the_hand(rt: HostRuntime) -> Result<(), Fail> {
 // The tenth block takes the slot of block 1.
 #[test]
 fn the_hand_moves_on(rt: HostRuntime) -> Result<(), Fail> {
-    let mut cache = table(rt.alloc(), flat(rt.alloc(), &[0; 10], GRANT)?)?;
+    let mut cache = TableCache::new(rt.alloc(), flat(rt.alloc(), &[0; 10], GRANT)?)?;
     put_in_turn(&mut cache, 10)?;
     assert_eq!(rt; cache.pending(), 8);
     let after = [1, 2, 0, 0, 0, 0, 0, 0, 0, 0];
@@ -44,14 +46,14 @@ fn the_hand_moves_on(rt: HostRuntime) -> Result<(), Fail> {
 fn put_twice_and_flush<S: Store>(store: &mut S) -> Result<(), Fail> {
     store.put_block(1, &filled(7))?;
     store.put_block(1, &filled(8))?;
-    check(store.read_block(1)? == filled(8), "another content is read")?;
+    same(store.read_block(1)?, filled(8))?;
     store.flush()?;
     Ok(())
 }
 
 #[test]
 fn table_stores_a_block_once(rt: HostRuntime) -> Result<(), Fail> {
-    let mut cache = table(rt.alloc(), flat(rt.alloc(), &[0, 0], GRANT)?)?;
+    let mut cache = TableCache::new(rt.alloc(), flat(rt.alloc(), &[0, 0], GRANT)?)?;
     put_twice_and_flush(&mut cache)?;
     assert_eq!(rt; cache.pending(), 0);
     stands(rt.alloc(), cache.into_below(), 1, &[0, 8])
@@ -59,7 +61,7 @@ fn table_stores_a_block_once(rt: HostRuntime) -> Result<(), Fail> {
 
 #[test]
 fn queue_stores_every_put(rt: HostRuntime) -> Result<(), Fail> {
-    let mut cache = queue(rt.alloc(), flat(rt.alloc(), &[0, 0], GRANT)?)?;
+    let mut cache = QueueCache::new(rt.alloc(), flat(rt.alloc(), &[0, 0], GRANT)?)?;
     put_twice_and_flush(&mut cache)?;
     assert_eq!(rt; cache.pending(), 0);
     stands(rt.alloc(), cache.into_below(), 2, &[0, 8])
@@ -68,7 +70,7 @@ fn queue_stores_every_put(rt: HostRuntime) -> Result<(), Fail> {
 // The put to block 2 came after the last one to block 0, and stays.
 #[test]
 fn force_puts_down_what_is_older(rt: HostRuntime) -> Result<(), Fail> {
-    let mut cache = queue(rt.alloc(), flat(rt.alloc(), &[0, 0, 0], GRANT)?)?;
+    let mut cache = QueueCache::new(rt.alloc(), flat(rt.alloc(), &[0, 0, 0], GRANT)?)?;
     cache.put_block(0, &filled(1))?;
     cache.put_block(1, &filled(2))?;
     cache.put_block(0, &filled(3))?;
@@ -80,7 +82,7 @@ fn force_puts_down_what_is_older(rt: HostRuntime) -> Result<(), Fail> {
 
 #[test]
 fn seventeenth_put_pushes_the_oldest_down(rt: HostRuntime) -> Result<(), Fail> {
-    let mut cache = queue(rt.alloc(), flat(rt.alloc(), &[0; 17], GRANT)?)?;
+    let mut cache = QueueCache::new(rt.alloc(), flat(rt.alloc(), &[0; 17], GRANT)?)?;
     put_in_turn(&mut cache, 17)?;
     assert_eq!(rt; cache.pending(), 16);
     let mut after = [0; 17];

@@ -1,0 +1,27 @@
+// The card at the bottom of the pile, new and at the next power-on.
+ghost use Rattle.std.specs.Prelude.{◌≡◌, IfOk};
+ghost use Rattle.log_pile.specs.Pile.{erased, reopened};
+
+use flash_card::FlashCard;
+use shift_log::LOG_BLOCKS;
+use std::alloc::{AllocError, Global};
+use store::Store;
+
+// four pages more than blocks, 516 bytes each
+pub const CARD_BYTES: usize = 16 * 516;
+
+// A card of FFh bytes throughout, which makes so many block stores before the power goes.
+pub fn erased_card(heap: Global, grant: u32) -> Result<FlashCard, AllocError>
+    ensures { IfOk result (λ card. ⟦<FlashCard as Store>⟧.model card ≡ erased grant) }
+{
+    let memory = vec![in heap; 0xff_u8; CARD_BYTES]?;
+    Ok(FlashCard::new(memory, LOG_BLOCKS, grant))
+}
+
+// The card at the next power-on, to see what stands on it: its memory is as it was.
+pub fn reopened(card: FlashCard) -> FlashCard
+    ensures { ⟦<FlashCard as Store>⟧.model result ≡ reopened (⟦<FlashCard as Store>⟧.model card) }
+{
+    let count = card.count();
+    FlashCard::new(card.into_memory(), count, 1)
+}

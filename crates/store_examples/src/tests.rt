@@ -1,0 +1,7 @@
+// Examples of the stores, each with one thing to see.
+mod caches;
+mod calls;
+mod card_pages;
+mod media;
+mod pile;
+mod setup;
