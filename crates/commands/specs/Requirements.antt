@@ -1,11 +1,8 @@
 -- What is asked of each command before it runs.
 use Rattle.std.specs.Prelude.{ℕ, ◌+◌, ◌*◌, min, Bool, true, false, not, ◌&&◌, ◌||◌, List, [], ◌∷◌, length, ◌==◌, bit_and, nat_eq, nat_le}
 use Rattle.commands.specs.Order.{Order, test_unit_ready, inquiry, mode_select, reserve, release, mode_sense, start_stop, prevent_allow, read_capacity, read, write, verify, synchronize_cache, code, on_inquiry, on_mode_select, on_mode_sense, on_start_stop, on_prevent_allow, on_transfer, on_write}
+use Rattle.commands.specs.Codes.{one_of}
 use Rattle.host_data.specs.Fields.{byte}
-
-abbrev pub one_of : ℕ → List ℕ → Bool
-one_of n [] = false
-one_of n (m ∷ ms) = n == m || one_of n ms
 
 -- is served while a unit attention is pending
 abbrev pub is_inquiry : Order → Bool

@@ -3,6 +3,7 @@
 
 ghost use Rattle.std.specs.Prelude.{◌≡◌};
 ghost use Rattle.sense.specs.Report.{attention_codes, report};
+ghost use Rattle.sense.specs.Codes.{status_code, key_code};
 
 // A unit attention, the highest first: a pending one yields only to a higher one.
 #[derive(Clone, Copy, PartialEq, Eq, Debug)]
@@ -36,7 +37,7 @@ pub enum Answer {
     InvalidParameter,
 }
 
-// An answer as the host sees it.
+// An answer as the host sees it: each field has the number that stands on the wire.
 #[derive(Clone, Copy, PartialEq, Eq, Debug)]
 pub struct Report {
     pub number: u8,
@@ -49,22 +50,33 @@ pub struct Report {
     pub count: u32,
 }
 
-const GOOD: u8 = 0x00;
+// The status of an answer, by its code.
+#[derive(Clone, Copy)]
+enum Status {
+    Good = 0x00,
+    CheckCondition = 0x02,
+    ReservationConflict = 0x18,
+    // of an answer that reaches no logical unit
+    NotReached = 0xff,
+}
 
-const CHECK_CONDITION: u8 = 0x02;
-
-const RESERVATION_CONFLICT: u8 = 0x18;
-
-// the status of an answer that reaches no logical unit
-const NO_STATUS: u8 = 0xff;
+// The sense key of an answer with sense data, by its code.
+#[derive(Clone, Copy)]
+enum SenseKey {
+    NotReady = 0x2,
+    IllegalRequest = 0x5,
+    UnitAttention = 0x6,
+    DataProtect = 0x7,
+    AbortedCommand = 0xb,
+}
 
 impl Report {
-    fn without_sense(number: u8, status: u8, count: u32) -> Report
-        ensures { result ≡ record { number = number; status = status; key = 0; asc = 0; ascq = 0; count = count } }
+    fn without_sense(number: u8, status: Status, count: u32) -> Report
+        ensures { result ≡ record { number = number; status = status_code status; key = 0; asc = 0; ascq = 0; count = count } }
     {
         Report {
             number,
-            status,
+            status: status as u8,
             key: 0,
             asc: 0,
             ascq: 0,
@@ -72,13 +84,13 @@ impl Report {
         }
     }
 
-    fn with_sense(number: u8, key: u8, asc: u8, ascq: u8) -> Report
-        ensures { result ≡ record { number = number; status = 2; key = key; asc = asc; ascq = ascq; count = 0 } }
+    fn with_sense(number: u8, key: SenseKey, asc: u8, ascq: u8) -> Report
+        ensures { result ≡ record { number = number; status = 2; key = key_code key; asc = asc; ascq = ascq; count = 0 } }
     {
         Report {
             number,
-            status: CHECK_CONDITION,
-            key,
+            status: Status::CheckCondition as u8,
+            key: key as u8,
             asc,
             ascq,
             count: 0,
@@ -105,26 +117,41 @@ impl Answer {
         ensures { result ≡ report self }
     {
         match self {
-            Answer::Good(count) => Report::without_sense(0, GOOD, count),
-            Answer::NoSuchHost => Report::without_sense(1, NO_STATUS, 0),
-            Answer::PowerOff => Report::without_sense(2, NO_STATUS, 0),
-            Answer::InvalidOpcode => Report::with_sense(3, 0x5, 0x20, 0x00),
-            Answer::ShortCdb => Report::with_sense(4, 0x5, 0x24, 0x00),
-            Answer::ControlSet => Report::with_sense(5, 0x5, 0x24, 0x00),
+            Answer::Good(count) => Report::without_sense(0, Status::Good, count),
+            Answer::NoSuchHost => Report::without_sense(1, Status::NotReached, 0),
+            Answer::PowerOff => Report::without_sense(2, Status::NotReached, 0),
+            Answer::InvalidOpcode => Report::with_sense(3, SenseKey::IllegalRequest, 0x20, 0x00),
+            Answer::ShortCdb => Report::with_sense(4, SenseKey::IllegalRequest, 0x24, 0x00),
+            Answer::ControlSet => Report::with_sense(5, SenseKey::IllegalRequest, 0x24, 0x00),
             Answer::UnitAttention(attention) => {
                 let (asc, ascq) = attention.codes();
-                Report::with_sense(6, 0x6, asc, ascq)
+                Report::with_sense(6, SenseKey::UnitAttention, asc, ascq)
             }
-            Answer::ReservationConflict => Report::without_sense(7, RESERVATION_CONFLICT, 0),
-            Answer::InvalidField => Report::with_sense(8, 0x5, 0x24, 0x00),
-            Answer::MediumNotPresent => Report::with_sense(9, 0x2, 0x3a, 0x00),
-            Answer::NotReady => Report::with_sense(10, 0x2, 0x04, 0x02),
-            Answer::AddressOutOfRange => Report::with_sense(11, 0x5, 0x21, 0x00),
-            Answer::WriteProtected => Report::with_sense(12, 0x7, 0x27, 0x00),
-            Answer::RemovalPrevented => Report::with_sense(13, 0x5, 0x53, 0x02),
-            Answer::ListLengthError => Report::with_sense(14, 0x5, 0x1a, 0x00),
-            Answer::DataPhaseError => Report::with_sense(15, 0xb, 0x4b, 0x00),
-            Answer::InvalidParameter => Report::with_sense(16, 0x5, 0x26, 0x00),
+            Answer::ReservationConflict => Report::without_sense(7, Status::ReservationConflict, 0),
+            Answer::InvalidField => Report::with_sense(8, SenseKey::IllegalRequest, 0x24, 0x00),
+            Answer::MediumNotPresent => Report::with_sense(9, SenseKey::NotReady, 0x3a, 0x00),
+            Answer::NotReady => Report::with_sense(10, SenseKey::NotReady, 0x04, 0x02),
+            Answer::AddressOutOfRange => Report::with_sense(
+                11,
+                SenseKey::IllegalRequest,
+                0x21,
+                0x00,
+            ),
+            Answer::WriteProtected => Report::with_sense(12, SenseKey::DataProtect, 0x27, 0x00),
+            Answer::RemovalPrevented => Report::with_sense(
+                13,
+                SenseKey::IllegalRequest,
+                0x53,
+                0x02,
+            ),
+            Answer::ListLengthError => Report::with_sense(14, SenseKey::IllegalRequest, 0x1a, 0x00),
+            Answer::DataPhaseError => Report::with_sense(15, SenseKey::AbortedCommand, 0x4b, 0x00),
+            Answer::InvalidParameter => Report::with_sense(
+                16,
+                SenseKey::IllegalRequest,
+                0x26,
+                0x00,
+            ),
         }
     }
 
