@@ -30,6 +30,11 @@ opcode c =
     (cond (c == 0x2f) (Some (Ten ten.Verify))
     (cond (c == 0x35) (Some (Ten ten.SynchronizeCache)) None))))))))))))
 
+-- the operation code, if it is known
+abbrev pub known : Option Opcode → Result Opcode Answer
+known None = Err InvalidOpcode
+known (Some o) = Ok o
+
 abbrev pub order_six : SixByte → List ℕ → List ℕ → Order
 order_six six.TestUnitReady cdb out = test_unit_ready
 order_six six.Inquiry cdb out = inquiry (bit 1 (byte cdb 1)) (byte cdb 2) (byte cdb 4)
@@ -61,13 +66,13 @@ abbrev pub opcode_of : List ℕ → Option Opcode
 opcode_of [] = None
 opcode_of (c ∷ cs) = opcode c
 
+-- the CDB has n bytes at least, and CONTROL, the last of them, is zero
+abbrev pub size_rungs : ℕ → List ℕ → List Rung
+size_rungs n cdb = rung (nat_le n (length cdb)) ShortCdb ∷ rung (byte cdb (n - 1) == 0) ControlSet ∷ []
+
 -- the code is known, the CDB long enough for it, and CONTROL, the last byte of its fields, zero
 abbrev pub cdb_rungs : Option Opcode → List ℕ → List Rung
-cdb_rungs code cdb =
-    rung (is_some code) InvalidOpcode
-    ∷ rung (nat_le (cdb_size code) (length cdb)) ShortCdb
-    ∷ rung (byte cdb (cdb_size code - 1) == 0) ControlSet
-    ∷ []
+cdb_rungs code cdb = rung (is_some code) InvalidOpcode ∷ size_rungs (cdb_size code) cdb
 
 abbrev pub decoded_by : Option Opcode → List ℕ → List ℕ → Result Order Answer
 decoded_by code cdb out = unless_refused (first_no (cdb_rungs code cdb)) (order_by code cdb out)

@@ -33,12 +33,12 @@ impl Command<'_> {
     {
         match self {
             Command::Inquiry { .. } | Command::Release | Command::ReadCapacity => true,
-            Command::PreventAllow { removal } => matches!(removal, Removal::Allowed),
+            Command::PreventAllow { removal } => removal == Removal::Allowed,
             Command::StartStopUnit {
                 condition,
                 start,
                 ..
-            } => matches!(condition, PowerCondition::NoChange) && start,
+            } => condition == PowerCondition::NoChange && start,
             _ => false,
         }
     }
@@ -102,7 +102,7 @@ impl Command<'_> {
                 condition,
                 start,
                 load_eject,
-            } => matches!(condition, PowerCondition::NoChange) && !start && load_eject,
+            } => condition == PowerCondition::NoChange && !start && load_eject,
             _ => false,
         }
     }
