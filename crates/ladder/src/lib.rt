@@ -1,15 +1,15 @@
 // The ladder of tests that each command passes before it runs. The first that fails gives the answer.
 #![tactic(auto)]
 
-ghost use Rattle.std.specs.Prelude.{◌≡◌, ◌<◌, take, drop, IfOk, OnOk};
-ghost use Rattle.cdb.specs.Decoding.{seen};
+ghost use Rattle.std.specs.Prelude.{◌≡◌, IfOk, OnOk};
 ghost use Rattle.commands.specs.Carried.{order};
 ghost use Rattle.sense.specs.Ladder.{first_no};
-ghost use Rattle.ladder.specs.Ladder.{ready, held_by_other, any_bar, command_rungs, judged, Runs};
+ghost use Rattle.logical_unit.specs.Hosts.{host_number};
+ghost use Rattle.ladder.specs.Ladder.{ready, held_by_other, any_bar, standing_rungs, data_rungs, judged, passed, Runs};
 
 use cdb::decode;
 use commands::Command;
-use logical_unit::{Condition, HOSTS, LogicalUnit};
+use logical_unit::{Condition, Host, LogicalUnit};
 use sense::Answer;
 
 fn is_ready(condition: Condition) -> bool
@@ -21,35 +21,24 @@ fn is_ready(condition: Condition) -> bool
     )
 }
 
-fn is_held_by_other(unit: &LogicalUnit, host: u32) -> bool
-    ensures { result ≡ held_by_other unit.now.holder host }
+fn is_held_by_other(unit: &LogicalUnit, host: Host) -> bool
+    ensures { result ≡ held_by_other unit.now.holder (host_number host) }
 {
-    match unit.holder {
-        Some(holder) => holder != host,
-        None => false,
-    }
+    unit.holder.is_some_and(|holder| holder != host.number())
 }
 
 fn has_bar(unit: &LogicalUnit) -> bool
     ensures { result ≡ any_bar unit.now.bars }
 {
-    let [a, b, c, d] = unit.bars;
-    a || b || c || d
+    unit.bars.contains(&true)
 }
 
 // The tests of the host's standing and of the unit's state.
-fn admit(
-    unit: &LogicalUnit,
-    host: u32,
-    count: u32,
-    room: usize,
-    command: Command<'_>,
-) -> Result<(), Answer>
-    requires { host < 4 }
-    ensures { result ≡ first_no (take 5 (command_rungs unit.now host count room (order command.entry))) }
+fn admit(unit: &LogicalUnit, host: Host, command: Command<'_>) -> Result<(), Answer>
+    ensures { result ≡ first_no (standing_rungs unit.now (host_number host) (order command.entry)) }
 {
     if !command.is_inquiry()
-        && let Some(attention) = unit.attentions[host as usize]
+        && let Some(attention) = unit.attention(host)
     {
         return Err(Answer::UnitAttention(attention));
     }
@@ -69,14 +58,8 @@ fn admit(
 }
 
 // The tests of the command's blocks and data.
-fn accept(
-    unit: &LogicalUnit,
-    host: u32,
-    count: u32,
-    room: usize,
-    command: Command<'_>,
-) -> Result<(), Answer>
-    ensures value { result ≡ first_no (drop 5 (command_rungs unit.now host count room (order command.entry))) }
+fn accept(unit: &LogicalUnit, count: u32, room: usize, command: Command<'_>) -> Result<(), Answer>
+    ensures value { result ≡ first_no (data_rungs unit.now count room (order command.entry)) }
     ensures runs { OnOk result (Runs count room (order command.entry)) }
 {
     if !command.is_in_range(count) {
@@ -100,7 +83,7 @@ fn accept(
     Ok(())
 }
 
-// The command of the CDB if it passes every test, else the first refusal.
+// The host and the command of the CDB if it passes every test, else the first refusal.
 pub fn judge<'a>(
     unit: &LogicalUnit,
     host: u32,
@@ -109,18 +92,16 @@ pub fn judge<'a>(
     cdb: &[u8],
     data_out: &'a [u8],
     room: usize,
-) -> Result<Command<'a>, Answer>
-    ensures value { seen result ≡ judged unit.now host power count cdb.now data_out.now room }
-    ensures runs { IfOk result (λ c. (host < 4) × Runs count room (order c)) }
+) -> Result<(Host, Command<'a>), Answer>
+    ensures value { passed result ≡ judged unit.now host power count cdb.now data_out.now room }
+    ensures runs { IfOk result (λ p. (host_number p.0 ≡ host) × Runs count room (order p.1)) }
 {
-    if host >= HOSTS {
-        return Err(Answer::NoSuchHost);
-    }
+    let host = Host::new(host).ok_or(Answer::NoSuchHost)?;
     if !power {
         return Err(Answer::PowerOff);
     }
     let command = decode(cdb, data_out)?;
-    admit(unit, host, count, room, command)?;
-    accept(unit, host, count, room, command)?;
-    Ok(command)
+    admit(unit, host, command)?;
+    accept(unit, count, room, command)?;
+    Ok((host, command))
 }
