@@ -1,11 +1,15 @@
 // Actions on the store, and on the logical unit once the store has done its part.
 ghost use Rattle.std.specs.Prelude.{◌≡◌, ◌+◌, ◌*◌, ◌^◌, ◌<◌, length};
 ghost use Rattle.store.specs.Steps.{stepped};
+ghost use Rattle.commands.specs.Codes.{power_code};
+ghost use Rattle.logical_unit.specs.Hosts.{host_number};
 ghost use Rattle.logical_unit.specs.ModePage.{selected};
 ghost use Rattle.rbc_steps.specs.Module.{joined, run_write, run_start_stop, run_change, run_select};
 
-use logical_unit::{LogicalUnit, Settings};
-use store::{Store, StoreError};
+use commands::PowerCondition;
+use host_data::Extent;
+use logical_unit::{Host, LogicalUnit, Settings};
+use store::{BLOCK_BYTES, Store, StoreError};
 use transfer::write_blocks;
 
 // WRITE: each block is forced after its put if FUA or WCD says so.
@@ -13,28 +17,27 @@ pub fn write<S: Store>(
     store: &mut S,
     unit: &LogicalUnit,
     force: bool,
-    address: u32,
-    count: u16,
+    extent: Extent,
     bytes: &[u8],
 ) -> Result<(), StoreError>
-    requires { (address + count < 2 ^ 32) × (length bytes.now ≡ 512 * count) }
-    ensures { stepped result (joined (S.Store.model store.new) unit.now) ≡ run_write S.Store.steps force address count bytes.now (joined (S.Store.model store.old) unit.now) }
+    requires { (extent.address + extent.length < 2 ^ 32) × (length bytes.now ≡ 512 * extent.length) }
+    ensures { stepped result (joined (S.Store.model store.new) unit.now) ≡ run_write S.Store.steps force extent.address extent.length bytes.now (joined (S.Store.model store.old) unit.now) }
 {
-    let (blocks, _) = bytes.as_chunks::<512>();
-    write_blocks(store, force || unit.settings.wcd, address, blocks)
+    let (blocks, _) = bytes.as_chunks::<BLOCK_BYTES>();
+    write_blocks(store, force || unit.settings.wcd, extent.address, blocks)
 }
 
 // START STOP UNIT: SLEEP, STOPPED and unloading flush first.
 pub fn start_stop<S: Store>(
     store: &mut S,
     unit: &mut LogicalUnit,
-    condition: u8,
+    condition: PowerCondition,
     start: bool,
     load_eject: bool,
 ) -> Result<(), StoreError>
-    ensures { stepped result (joined (S.Store.model store.new) unit.new) ≡ run_start_stop S.Store.steps condition start load_eject (joined (S.Store.model store.old) unit.old) }
+    ensures { stepped result (joined (S.Store.model store.new) unit.new) ≡ run_start_stop S.Store.steps (power_code condition) start load_eject (joined (S.Store.model store.old) unit.old) }
 {
-    if condition == 5 || (condition == 0 && !start) {
+    if condition == PowerCondition::Sleep || (condition == PowerCondition::NoChange && !start) {
         store.flush()?;
     }
     unit.start_stop(condition, start, load_eject);
@@ -45,11 +48,10 @@ pub fn start_stop<S: Store>(
 fn change_settings<S: Store>(
     store: &mut S,
     unit: &mut LogicalUnit,
-    host: u32,
+    host: Host,
     settings: Settings,
 ) -> Result<(), StoreError>
-    requires { host < 4 }
-    ensures { stepped result (joined (S.Store.model store.new) unit.new) ≡ run_change S.Store.steps host settings (joined (S.Store.model store.old) unit.old) }
+    ensures { stepped result (joined (S.Store.model store.new) unit.new) ≡ run_change S.Store.steps (host_number host) settings (joined (S.Store.model store.old) unit.old) }
 {
     if settings.wcd && !unit.settings.wcd {
         store.flush()?;
@@ -62,11 +64,10 @@ fn change_settings<S: Store>(
 pub fn mode_select<S: Store>(
     store: &mut S,
     unit: &mut LogicalUnit,
-    host: u32,
+    host: Host,
     list: &[u8],
 ) -> Result<(), StoreError>
-    requires { host < 4 }
-    ensures { stepped result (joined (S.Store.model store.new) unit.new) ≡ run_select S.Store.steps host (selected list.now) (joined (S.Store.model store.old) unit.old) }
+    ensures { stepped result (joined (S.Store.model store.new) unit.new) ≡ run_select S.Store.steps (host_number host) (selected list.now) (joined (S.Store.model store.old) unit.old) }
 {
     match Settings::from_list(list) {
         Some(settings) => change_settings(store, unit, host, settings),

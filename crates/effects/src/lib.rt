@@ -1,15 +1,16 @@
 // What each command does once it has passed the ladder, over a store and the logical unit.
 #![tactic(auto)]
 
-ghost use Rattle.std.specs.Prelude.{◌≡◌, ◌<◌, length};
+ghost use Rattle.std.specs.Prelude.{◌≡◌, length};
 ghost use Rattle.store.specs.Steps.{stepped};
 ghost use Rattle.commands.specs.Carried.{order};
+ghost use Rattle.logical_unit.specs.Hosts.{host_number};
 ghost use Rattle.ladder.specs.Ladder.{Runs};
 ghost use Rattle.rbc_steps.specs.Module.{joined, exchange, run};
 
 use actions::{inquire, mode_select, report_capacity, sense_mode, start_stop, write};
-use commands::Command;
-use logical_unit::LogicalUnit;
+use commands::{Command, Removal};
+use logical_unit::{Host, LogicalUnit};
 use store::{Store, StoreError};
 use transfer::{read_blocks, verify_blocks};
 
@@ -17,12 +18,12 @@ use transfer::{read_blocks, verify_blocks};
 pub fn run<S: Store>(
     store: &mut S,
     unit: &mut LogicalUnit,
-    host: u32,
+    host: Host,
     command: Command<'_>,
     data_in: &mut [u8],
 ) -> Result<u32, StoreError>
-    requires { (host < 4) × (Runs (S.Store.steps.count (S.Store.model store.old)) (length data_in.old) (order command)) }
-    ensures { stepped result (exchange (joined (S.Store.model store.new) unit.new) data_in.new) ≡ run S.Store.steps host (order command.entry) (exchange (joined (S.Store.model store.old) unit.old) data_in.old) }
+    requires { Runs (S.Store.steps.count (S.Store.model store.old)) (length data_in.old) (order command) }
+    ensures { stepped result (exchange (joined (S.Store.model store.new) unit.new) data_in.new) ≡ run S.Store.steps (host_number host) (order command.entry) (exchange (joined (S.Store.model store.old) unit.old) data_in.old) }
 {
     match command {
         Command::TestUnitReady => Ok(0),
@@ -32,11 +33,11 @@ pub fn run<S: Store>(
             Ok(0)
         }
         Command::Reserve => {
-            unit.reserve(host);
+            unit.reserve(host.number());
             Ok(0)
         }
         Command::Release => {
-            unit.release(host);
+            unit.release(host.number());
             Ok(0)
         }
         Command::ModeSense {
@@ -47,8 +48,8 @@ pub fn run<S: Store>(
             let settings = unit.shown_settings(control);
             Ok(sense_mode(data_in, settings, store.count(), allocation))
         }
-        Command::PreventAllow { prevent } => {
-            unit.set_bar(host, prevent == 1);
+        Command::PreventAllow { removal } => {
+            unit.set_bar(host, removal == Removal::Prevented);
             Ok(0)
         }
         Command::StartStopUnit {
@@ -60,30 +61,21 @@ pub fn run<S: Store>(
             Ok(0)
         }
         Command::ReadCapacity => Ok(report_capacity(data_in, store.count())),
-        Command::Read {
-            address,
-            length,
-            ..
-        } => {
-            read_blocks(store, address, length, data_in)?;
-            Ok(512 * u32::from(length))
+        Command::Read { extent, .. } => {
+            read_blocks(store, extent, data_in)?;
+            Ok(extent.byte_count() as u32)
         }
         Command::Write {
             force,
-            address,
-            length,
+            extent,
             data,
             ..
         } => {
-            write(store, unit, force, address, length, data)?;
+            write(store, unit, force, extent, data)?;
             Ok(0)
         }
-        Command::Verify {
-            address,
-            length,
-            ..
-        } => {
-            verify_blocks(store, address, length)?;
+        Command::Verify { extent, .. } => {
+            verify_blocks(store, extent)?;
             Ok(0)
         }
         Command::SynchronizeCache => {

@@ -11,7 +11,7 @@ ghost use Rattle.rbc.specs.Modeled.{modeled};
 use super::Module;
 use effects::run;
 use ladder::judge;
-use logical_unit::LogicalUnit;
+use logical_unit::{Host, LogicalUnit};
 use sense::Answer;
 use store::Store;
 
@@ -25,12 +25,18 @@ impl<S: Store> Module<S> {
         let power = self.store.power();
         let count = self.store.count();
         match judge(&self.unit, host, power, count, cdb, data_out, data_in.len()) {
-            Ok(command) => match run(&mut self.store, &mut self.unit, host, command, data_in) {
+            Ok((host, command)) => match run(
+                &mut self.store,
+                &mut self.unit,
+                host,
+                command,
+                data_in,
+            ) {
                 Ok(returned) => Answer::Good(returned),
                 Err(_) => Answer::PowerOff,
             },
             Err(answer) => {
-                if let Answer::UnitAttention(_) = answer {
+                if let (Some(host), Answer::UnitAttention(_)) = (Host::new(host), answer) {
                     self.unit.clear_attention(host);
                 }
                 answer
