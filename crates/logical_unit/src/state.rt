@@ -65,11 +65,13 @@ impl LogicalUnit {
         self.attentions[host.index()]
     }
 
-    // The host was told its attention.
-    pub fn clear_attention(&mut self, host: Host)
-        ensures { self.new ≡ cleared (host_number host) self.old }
+    // The host was told its attention; a host that the unit doesn't know has none.
+    pub fn clear_attention(&mut self, host: u32)
+        ensures { self.new ≡ cleared host self.old }
     {
-        self.attentions[host.index()] = None;
+        if let Some(host) = Host::new(host) {
+            self.attentions[host.index()] = None;
+        }
     }
 
     // PREVENT ALLOW: the host's removal bar.

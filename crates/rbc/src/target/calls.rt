@@ -11,7 +11,7 @@ ghost use Rattle.rbc.specs.Modeled.{modeled};
 use super::Module;
 use effects::run;
 use ladder::judge;
-use logical_unit::{Host, LogicalUnit};
+use logical_unit::LogicalUnit;
 use sense::Answer;
 use store::Store;
 
@@ -36,7 +36,7 @@ impl<S: Store> Module<S> {
                 Err(_) => Answer::PowerOff,
             },
             Err(answer) => {
-                if let (Some(host), Answer::UnitAttention(_)) = (Host::new(host), answer) {
+                if let Answer::UnitAttention(_) = answer {
                     self.unit.clear_attention(host);
                 }
                 answer
