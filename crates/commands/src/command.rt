@@ -2,7 +2,7 @@
 use crate::fields::{PageControl, PowerCondition, Removal};
 use host_data::Extent;
 
-#[derive(Clone, Copy, Debug)]
+#[derive(Clone, Copy, PartialEq, Eq, Debug)]
 pub enum Command<'a> {
     TestUnitReady,
     Inquiry {

@@ -12,7 +12,7 @@ use sense::Answer;
 use std::alloc::{AllocError, Global};
 use store::Store;
 
-#[derive(Clone, Copy)]
+#[derive(Clone, Copy, PartialEq, Eq, Debug)]
 pub enum Call<'a> {
     Reset,
     // data_in is what the host's buffer holds before the command
@@ -24,7 +24,7 @@ pub enum Call<'a> {
     },
 }
 
-#[derive(Drop)]
+#[derive(PartialEq, Eq, Debug, Drop)]
 pub struct Reply {
     pub answer: Answer,
     // the bytes that were put at the front of data-in
