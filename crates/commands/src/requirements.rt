@@ -49,10 +49,15 @@ impl Command<'_> {
         match self {
             Command::Inquiry { vital, page, .. } => !vital && page == 0,
             Command::ModeSense { control, page, .. } => {
-                matches!(control, PageControl::Current | PageControl::Defaults | PageControl::Saved)
-                    && matches!(page, MODE_PAGE | ALL_PAGES)
+                matches!(
+                    control,
+                    PageControl::Current | PageControl::Defaults | PageControl::Saved
+                ) && matches!(page, MODE_PAGE | ALL_PAGES)
             }
-            Command::StartStopUnit { condition, .. } => !matches!(condition, PowerCondition::Reserved(_)),
+            Command::StartStopUnit { condition, .. } => !matches!(
+                condition,
+                PowerCondition::Reserved(_)
+            ),
             Command::PreventAllow { removal } => !matches!(removal, Removal::Reserved(_)),
             Command::Read { relative, .. }
             | Command::Write { relative, .. }
@@ -161,5 +166,9 @@ fn is_mode_list(list: &[u8]) -> bool
     let [_, byte1, byte2, byte3, page, length, ..] = list else {
         return false;
     };
-    *byte1 == 0 && *byte2 == 0 && *byte3 == 0 && *page & 0x3f == MODE_PAGE && *length == MODE_PAGE_LENGTH
+    *byte1 == 0
+        && *byte2 == 0
+        && *byte3 == 0
+        && *page & 0x3f == MODE_PAGE
+        && *length == MODE_PAGE_LENGTH
 }
