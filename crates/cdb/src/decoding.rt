@@ -6,18 +6,18 @@ ghost use Rattle.cdb.specs.Decoding.{decoded_by, decoded, seen};
 use crate::opcode::{Opcode, SixByte, TenByte};
 use commands::Command;
 use host_data::front;
-use sense::Answer;
+use sense::CommandError;
 
 const BLOCK_BYTES: usize = 512;
 
-fn decode_six<'a>(six: SixByte, cdb: &[u8], data_out: &'a [u8]) -> Result<Command<'a>, Answer>
+fn decode_six<'a>(six: SixByte, cdb: &[u8], data_out: &'a [u8]) -> Result<Command<'a>, CommandError>
     ensures { seen result ≡ decoded_by (Some (Six six)) cdb.now data_out.now }
 {
     let [_, byte1, byte2, _, byte4, control, ..] = cdb else {
-        return Err(Answer::ShortCdb);
+        return Err(CommandError::ShortCdb);
     };
     if *control != 0 {
-        return Err(Answer::ControlSet);
+        return Err(CommandError::ControlSet);
     }
     Ok(match six {
         SixByte::TestUnitReady => Command::TestUnitReady,
@@ -48,7 +48,7 @@ fn decode_six<'a>(six: SixByte, cdb: &[u8], data_out: &'a [u8]) -> Result<Comman
     })
 }
 
-fn decode_ten<'a>(ten: TenByte, cdb: &[u8], data_out: &'a [u8]) -> Result<Command<'a>, Answer>
+fn decode_ten<'a>(ten: TenByte, cdb: &[u8], data_out: &'a [u8]) -> Result<Command<'a>, CommandError>
     ensures { seen result ≡ decoded_by (Some (Ten ten)) cdb.now data_out.now }
 {
     let [
@@ -65,10 +65,10 @@ fn decode_ten<'a>(ten: TenByte, cdb: &[u8], data_out: &'a [u8]) -> Result<Comman
         ..
     ] = cdb
     else {
-        return Err(Answer::ShortCdb);
+        return Err(CommandError::ShortCdb);
     };
     if *control != 0 {
-        return Err(Answer::ControlSet);
+        return Err(CommandError::ControlSet);
     }
     let relative = *byte1 & 1 != 0;
     let address = u32::from_be_bytes([*byte2, *byte3, *byte4, *byte5]);
@@ -97,15 +97,15 @@ fn decode_ten<'a>(ten: TenByte, cdb: &[u8], data_out: &'a [u8]) -> Result<Comman
 }
 
 // The command of a CDB, with its data if the host sends some; or why the CDB has none.
-pub fn decode<'a>(cdb: &[u8], data_out: &'a [u8]) -> Result<Command<'a>, Answer>
+pub fn decode<'a>(cdb: &[u8], data_out: &'a [u8]) -> Result<Command<'a>, CommandError>
     ensures { seen result ≡ decoded cdb.now data_out.now }
 {
     let [code, ..] = cdb else {
-        return Err(Answer::InvalidOpcode);
+        return Err(CommandError::InvalidOpcode);
     };
     match Opcode::from_code(*code) {
         Some(Opcode::Six(six)) => decode_six(six, cdb, data_out),
         Some(Opcode::Ten(ten)) => decode_ten(ten, cdb, data_out),
-        None => Err(Answer::InvalidOpcode),
+        None => Err(CommandError::InvalidOpcode),
     }
 }

@@ -10,7 +10,7 @@ ghost use Rattle.ladder.specs.Ladder.{ready, held_by_other, any_bar, command_run
 use cdb::decode;
 use commands::Command;
 use logical_unit::{Condition, HOSTS, LogicalUnit};
-use sense::Answer;
+use sense::CommandError;
 
 fn is_ready(condition: Condition) -> bool
     ensures { result ≡ ready condition }
@@ -44,26 +44,26 @@ fn admit(
     count: u32,
     room: usize,
     command: Command<'_>,
-) -> Result<(), Answer>
+) -> Result<(), CommandError>
     requires { host < 4 }
     ensures { result ≡ first_no (take 5 (command_rungs unit.now host count room (order command.entry))) }
 {
     if !command.is_inquiry()
         && let Some(attention) = unit.attentions[host as usize]
     {
-        return Err(Answer::UnitAttention(attention));
+        return Err(CommandError::UnitAttention(attention));
     }
     if is_held_by_other(unit, host) && !command.passes_reservation() {
-        return Err(Answer::ReservationConflict);
+        return Err(CommandError::ReservationConflict);
     }
     if !command.has_valid_fields() {
-        return Err(Answer::InvalidField);
+        return Err(CommandError::InvalidField);
     }
     if command.uses_medium() && !unit.loaded {
-        return Err(Answer::MediumNotPresent);
+        return Err(CommandError::MediumNotPresent);
     }
     if command.uses_medium() && !is_ready(unit.condition) {
-        return Err(Answer::NotReady);
+        return Err(CommandError::NotReady);
     }
     Ok(())
 }
@@ -75,27 +75,27 @@ fn accept(
     count: u32,
     room: usize,
     command: Command<'_>,
-) -> Result<(), Answer>
+) -> Result<(), CommandError>
     ensures value { result ≡ first_no (drop 5 (command_rungs unit.now host count room (order command.entry))) }
     ensures runs { OnOk result (Runs count room (order command.entry)) }
 {
     if !command.is_in_range(count) {
-        return Err(Answer::AddressOutOfRange);
+        return Err(CommandError::AddressOutOfRange);
     }
     if command.writes() && unit.settings.writed {
-        return Err(Answer::WriteProtected);
+        return Err(CommandError::WriteProtected);
     }
     if command.unloads() && has_bar(unit) {
-        return Err(Answer::RemovalPrevented);
+        return Err(CommandError::RemovalPrevented);
     }
     if !command.has_valid_list_length() {
-        return Err(Answer::ListLengthError);
+        return Err(CommandError::ListLengthError);
     }
     if !(command.is_supplied() && command.returned() <= room) {
-        return Err(Answer::DataPhaseError);
+        return Err(CommandError::DataPhaseError);
     }
     if !command.has_valid_parameters() {
-        return Err(Answer::InvalidParameter);
+        return Err(CommandError::InvalidParameter);
     }
     Ok(())
 }
@@ -109,15 +109,15 @@ pub fn judge<'a>(
     cdb: &[u8],
     data_out: &'a [u8],
     room: usize,
-) -> Result<Command<'a>, Answer>
+) -> Result<Command<'a>, CommandError>
     ensures value { seen result ≡ judged unit.now host power count cdb.now data_out.now room }
     ensures runs { IfOk result (λ c. (host < 4) × Runs count room (order c)) }
 {
     if host >= HOSTS {
-        return Err(Answer::NoSuchHost);
+        return Err(CommandError::NoSuchHost);
     }
     if !power {
-        return Err(Answer::PowerOff);
+        return Err(CommandError::PowerOff);
     }
     let command = decode(cdb, data_out)?;
     admit(unit, host, count, room, command)?;
