@@ -2,7 +2,7 @@
 ghost use Rattle.std.specs.Prelude.{◌≡◌};
 ghost use Rattle.cdb.specs.Decoding.{opcode, known};
 
-use sense::Answer;
+use sense::CommandError;
 
 #[derive(Clone, Copy, PartialEq, Eq, Debug)]
 pub enum SixByte {
@@ -32,11 +32,11 @@ pub enum Opcode {
 }
 
 impl TryFrom<u8> for Opcode {
-    type Error = Answer;
+    type Error = CommandError;
 
     ghost try_from_gives = { λ code r. r ≡ known (opcode code) };
 
-    fn try_from(code: u8) -> Result<Opcode, Answer> {
+    fn try_from(code: u8) -> Result<Opcode, CommandError> {
         Ok(match code {
             0x00 => Opcode::Six(SixByte::TestUnitReady),
             0x12 => Opcode::Six(SixByte::Inquiry),
@@ -51,7 +51,7 @@ impl TryFrom<u8> for Opcode {
             0x2a => Opcode::Ten(TenByte::Write),
             0x2f => Opcode::Ten(TenByte::Verify),
             0x35 => Opcode::Ten(TenByte::SynchronizeCache),
-            _ => return Err(Answer::InvalidOpcode),
+            _ => return Err(CommandError::InvalidOpcode),
         })
     }
 }

@@ -1,7 +1,7 @@
 -- The tests that each command passes before it runs, in order. The first that fails gives the answer.
 use Rattle.std.specs.Prelude.{◌≡◌, ℕ, Bool, true, false, not, ◌&&◌, ◌||◌, leb, List, [], ◌∷◌, ◌++◌, is_some, Some, None, Ok, Err, Option, Result, ◌==◌, nat_le, nat_lt, slice_index_or}
-use Rattle.sense.specs.declared.Answer.{Answer}
-use Rattle.sense.specs.declared.Answer.TheVariants.{NoSuchHost, PowerOff, UnitAttention, ReservationConflict, InvalidField, MediumNotPresent, NotReady, AddressOutOfRange, WriteProtected, RemovalPrevented, ListLengthError, DataPhaseError, InvalidParameter}
+use Rattle.sense.specs.declared.CommandError.{CommandError}
+use Rattle.sense.specs.declared.CommandError.TheVariants.{NoSuchHost, PowerOff, UnitAttention, ReservationConflict, InvalidField, MediumNotPresent, NotReady, AddressOutOfRange, WriteProtected, RemovalPrevented, ListLengthError, DataPhaseError, InvalidParameter}
 use Rattle.sense.specs.declared.Attention.{Attention}
 use Rattle.sense.specs.declared.Attention.TheVariants.{PowerOnOrReset}
 use Rattle.sense.specs.Ladder.{Rung, rung, first_no, unless_refused}
@@ -68,11 +68,11 @@ ladder u h power count cdb out room =
     ∷ (cdb_rungs (opcode_of cdb) cdb ++ command_rungs u h count room (order_by (opcode_of cdb) cdb out))
 
 -- the command that runs, or the first refusal
-abbrev pub judged : LogicalUnit → ℕ → Bool → ℕ → List ℕ → List ℕ → ℕ → Result Order Answer
+abbrev pub judged : LogicalUnit → ℕ → Bool → ℕ → List ℕ → List ℕ → ℕ → Result Order CommandError
 judged u h power count cdb out room = unless_refused (first_no (ladder u h power count cdb out room)) (order_by (opcode_of cdb) cdb out)
 
 -- what the code judges, by what its references point to
-abbrev pub passed : Result (Host × Command) Answer → Result Order Answer
+abbrev pub passed : Result (Host × Command) CommandError → Result Order CommandError
 passed (Ok p) = Ok (order p.1)
 passed (Err a) = Err a
 

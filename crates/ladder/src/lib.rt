@@ -10,7 +10,7 @@ ghost use Rattle.ladder.specs.Ladder.{ready, held_by_other, any_bar, standing_ru
 use cdb::decode;
 use commands::Command;
 use logical_unit::{Condition, Host, LogicalUnit};
-use sense::Answer;
+use sense::CommandError;
 
 fn is_ready(condition: Condition) -> bool
     ensures { result ≡ ready condition }
@@ -34,51 +34,51 @@ fn has_bar(unit: &LogicalUnit) -> bool
 }
 
 // The tests of the host's standing and of the unit's state.
-fn admit(unit: &LogicalUnit, host: Host, command: Command<'_>) -> Result<(), Answer>
+fn admit(unit: &LogicalUnit, host: Host, command: Command<'_>) -> Result<(), CommandError>
     ensures { result ≡ first_no (standing_rungs unit.now (host_number host) (order command.entry)) }
 {
     if !command.is_inquiry()
         && let Some(attention) = unit.attention(host)
     {
-        return Err(Answer::UnitAttention(attention));
+        return Err(CommandError::UnitAttention(attention));
     }
     if is_held_by_other(unit, host) && !command.passes_reservation() {
-        return Err(Answer::ReservationConflict);
+        return Err(CommandError::ReservationConflict);
     }
     if !command.has_valid_fields() {
-        return Err(Answer::InvalidField);
+        return Err(CommandError::InvalidField);
     }
     if command.uses_medium() && !unit.loaded {
-        return Err(Answer::MediumNotPresent);
+        return Err(CommandError::MediumNotPresent);
     }
     if command.uses_medium() && !is_ready(unit.condition) {
-        return Err(Answer::NotReady);
+        return Err(CommandError::NotReady);
     }
     Ok(())
 }
 
 // The tests of the command's blocks and data.
-fn accept(unit: &LogicalUnit, count: u32, room: usize, command: Command<'_>) -> Result<(), Answer>
+fn accept(unit: &LogicalUnit, count: u32, room: usize, command: Command<'_>) -> Result<(), CommandError>
     ensures value { result ≡ first_no (data_rungs unit.now count room (order command.entry)) }
     ensures runs { OnOk result (Runs count room (order command.entry)) }
 {
     if !command.is_in_range(count) {
-        return Err(Answer::AddressOutOfRange);
+        return Err(CommandError::AddressOutOfRange);
     }
     if command.writes() && unit.settings.writed {
-        return Err(Answer::WriteProtected);
+        return Err(CommandError::WriteProtected);
     }
     if command.unloads() && has_bar(unit) {
-        return Err(Answer::RemovalPrevented);
+        return Err(CommandError::RemovalPrevented);
     }
     if !command.has_valid_list_length() {
-        return Err(Answer::ListLengthError);
+        return Err(CommandError::ListLengthError);
     }
     if !(command.is_supplied() && command.returned() <= room) {
-        return Err(Answer::DataPhaseError);
+        return Err(CommandError::DataPhaseError);
     }
     if !command.has_valid_parameters() {
-        return Err(Answer::InvalidParameter);
+        return Err(CommandError::InvalidParameter);
     }
     Ok(())
 }
@@ -92,13 +92,13 @@ pub fn judge<'a>(
     cdb: &[u8],
     data_out: &'a [u8],
     room: usize,
-) -> Result<(Host, Command<'a>), Answer>
+) -> Result<(Host, Command<'a>), CommandError>
     ensures value { passed result ≡ judged unit.now host power count cdb.now data_out.now room }
     ensures runs { IfOk result (λ p. (host_number p.0 ≡ host) × Runs count room (order p.1)) }
 {
-    let host = Host::new(host).ok_or(Answer::NoSuchHost)?;
+    let host = Host::new(host).ok_or(CommandError::NoSuchHost)?;
     if !power {
-        return Err(Answer::PowerOff);
+        return Err(CommandError::PowerOff);
     }
     let command = decode(cdb, data_out)?;
     admit(unit, host, command)?;

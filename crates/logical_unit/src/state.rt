@@ -146,17 +146,25 @@ impl LogicalUnit {
         ensures { self.new ≡ started (power_code condition) start load_eject self.old }
     {
         let was_loaded = self.loaded;
-        if condition == PowerCondition::NoChange && load_eject {
-            self.loaded = start;
-        }
-        self.condition = match condition {
-            PowerCondition::NoChange if start => Condition::Active,
-            PowerCondition::NoChange => Condition::Stopped,
-            PowerCondition::Active | PowerCondition::DeviceControl => Condition::Active,
-            PowerCondition::Idle => Condition::Idle,
-            PowerCondition::Standby => Condition::Standby,
-            PowerCondition::Sleep => Condition::Sleep,
-            PowerCondition::Reserved(_) => self.condition,
+        (self.loaded, self.condition) = match (
+            self.loaded,
+            self.condition,
+            condition,
+            start,
+            load_eject,
+        ) {
+            (loaded, _, PowerCondition::Active | PowerCondition::DeviceControl, _, _) => (
+                loaded,
+                Condition::Active,
+            ),
+            (loaded, _, PowerCondition::Idle, _, _) => (loaded, Condition::Idle),
+            (loaded, _, PowerCondition::Standby, _, _) => (loaded, Condition::Standby),
+            (loaded, _, PowerCondition::Sleep, _, _) => (loaded, Condition::Sleep),
+            (_, _, PowerCondition::NoChange, false, true) => (false, Condition::Stopped),
+            (loaded, _, PowerCondition::NoChange, false, false) => (loaded, Condition::Stopped),
+            (_, _, PowerCondition::NoChange, true, true) => (true, Condition::Active),
+            (loaded, _, PowerCondition::NoChange, true, false) => (loaded, Condition::Active),
+            (loaded, condition, PowerCondition::Reserved(_), _, _) => (loaded, condition),
         };
         if self.loaded && !was_loaded {
             self.raise_all(Attention::MediumChanged);

@@ -5,7 +5,8 @@ use Rattle.ladder.specs.Ladder.{judged}
 use Rattle.store.specs.Steps.{Steps, Answer as Outcome, Stepped, stepped}
 use Rattle.store.specs.Meaning.{Meaning}
 use Rattle.store.specs.Keeps.{Keeps}
-use Rattle.sense.specs.declared.Answer.{Answer}
+use Rattle.sense.specs.declared.CommandError.{CommandError}
+use Rattle.sense.specs.Report.{Answer}
 use Rattle.rbc_steps.specs.Module.{ModuleModel, Exchange, exchange, Reply, replied, answer_of, run, replied_to, commanded}
 use Rattle.rbc_steps.specs.Calls.{Command, asked}
 use Rattle.rbc_steps.specs.Writes.{added, added_count}
@@ -46,5 +47,5 @@ pub ran :
     → replied (answer_of r) x' ≡ commanded steps h cdb out x
 ran {M} steps h cdb out x power count {k} {o} same p n d e =
     ap (λ (v : Stepped ℕ (Exchange M)). replied (answer_of v.answer) v.after) (e ∙ ap (λ (i : ℕ). run steps i o x) same)
-    ∙ ap (λ (j : Result Order Answer). replied_to steps h j x) d
+    ∙ ap (λ (j : Result Order CommandError). replied_to steps h j x) d
     ∙ ap₂ (λ (v : Bool) (n : ℕ). replied_to steps h (judged x.target.unit h v n cdb out (length x.data_in)) x) p n

@@ -3,7 +3,7 @@
 use crate::scene::Step;
 use cdb::decode;
 use commands::Command;
-use sense::Answer;
+use sense::CommandError;
 use session::Reply;
 
 #[derive(Clone, Copy)]
@@ -41,8 +41,8 @@ pub(super) fn numbers_at(steps: &[Step], replies: &[Reply], block: u32, found: &
     };
     let mut power = true;
     for (step, reply) in steps.iter().zip(replies.iter()) {
-        let lost = matches!(reply.answer, Answer::PowerOff);
-        let carried_out = matches!(reply.answer, Answer::Good(_)) || (lost && power);
+        let lost = matches!(reply.answer, Err(CommandError::PowerOff));
+        let carried_out = reply.answer.is_ok() || (lost && power);
         power = power && !lost;
         if carried_out && let Some(content) = written(step, block) {
             numbers.latest = numbers.latest.saturating_add(1);

@@ -30,7 +30,7 @@ fn print_answer(rt: &HostRuntime, answer: Answer) -> anyhow::Result<()> {
         asc,
         ascq,
         ..
-    } = answer.report();
+    } = Report::from(answer);
     if number == 0 {
         print!(rt; "good")?;
     } else if key == 0 {

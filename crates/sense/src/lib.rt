@@ -2,8 +2,10 @@
 #![tactic(auto)]
 
 ghost use Rattle.std.specs.Prelude.{◌≡◌};
-ghost use Rattle.sense.specs.Report.{attention_codes, report};
 ghost use Rattle.sense.specs.Codes.{status_code, key_code};
+ghost use Rattle.sense.specs.Report.{attention_codes, error_report, report};
+
+use thiserror::Error;
 
 // A unit attention, the highest first: a pending one yields only to a higher one.
 #[derive(Clone, Copy, PartialEq, Eq, Debug)]
@@ -13,29 +15,46 @@ pub enum Attention {
     ParametersChanged,
 }
 
-// One case for each number, in the order of the numbers.
-#[derive(Clone, Copy, PartialEq, Eq, Debug)]
-pub enum Answer {
-    // with the count of bytes put at the front of data-in
-    Good(u32),
+// Why an answer is not good: one case for each number from 1 on, in the order of the numbers.
+#[derive(Clone, Copy, PartialEq, Eq, Debug, Error)]
+pub enum CommandError {
+    #[error("no such host")]
     NoSuchHost,
     // power was off, or was lost on the way
+    #[error("the power is off")]
     PowerOff,
+    #[error("invalid operation code")]
     InvalidOpcode,
+    #[error("the CDB is too short")]
     ShortCdb,
+    #[error("CONTROL is not zero")]
     ControlSet,
+    #[error("unit attention")]
     UnitAttention(Attention),
+    #[error("reservation conflict")]
     ReservationConflict,
+    #[error("invalid field in the CDB")]
     InvalidField,
+    #[error("no medium")]
     MediumNotPresent,
+    #[error("not ready")]
     NotReady,
+    #[error("address out of range")]
     AddressOutOfRange,
+    #[error("write protected")]
     WriteProtected,
+    #[error("the removal of the medium is prevented")]
     RemovalPrevented,
+    #[error("the parameter list has a wrong length")]
     ListLengthError,
+    #[error("data phase error")]
     DataPhaseError,
+    #[error("invalid field in the parameter list")]
     InvalidParameter,
 }
+
+// The count of bytes put at the front of data-in, or why not.
+pub type Answer = Result<u32, CommandError>;
 
 // An answer as the host sees it: each field has the number that stands on the wire.
 #[derive(Clone, Copy, PartialEq, Eq, Debug)]
@@ -111,42 +130,41 @@ impl Attention {
     }
 }
 
-impl Answer {
-    // The number, status and sense data of each answer.
+impl CommandError {
+    // The number, status and sense data of each error.
     pub fn report(self) -> Report
-        ensures { result ≡ report self }
+        ensures { result ≡ error_report self }
     {
         match self {
-            Answer::Good(count) => Report::without_sense(0, Status::Good, count),
-            Answer::NoSuchHost => Report::without_sense(1, Status::NotReached, 0),
-            Answer::PowerOff => Report::without_sense(2, Status::NotReached, 0),
-            Answer::InvalidOpcode => Report::with_sense(3, SenseKey::IllegalRequest, 0x20, 0x00),
-            Answer::ShortCdb => Report::with_sense(4, SenseKey::IllegalRequest, 0x24, 0x00),
-            Answer::ControlSet => Report::with_sense(5, SenseKey::IllegalRequest, 0x24, 0x00),
-            Answer::UnitAttention(attention) => {
+            CommandError::NoSuchHost => Report::without_sense(1, Status::NotReached, 0),
+            CommandError::PowerOff => Report::without_sense(2, Status::NotReached, 0),
+            CommandError::InvalidOpcode => Report::with_sense(3, SenseKey::IllegalRequest, 0x20, 0x00),
+            CommandError::ShortCdb => Report::with_sense(4, SenseKey::IllegalRequest, 0x24, 0x00),
+            CommandError::ControlSet => Report::with_sense(5, SenseKey::IllegalRequest, 0x24, 0x00),
+            CommandError::UnitAttention(attention) => {
                 let (asc, ascq) = attention.codes();
                 Report::with_sense(6, SenseKey::UnitAttention, asc, ascq)
             }
-            Answer::ReservationConflict => Report::without_sense(7, Status::ReservationConflict, 0),
-            Answer::InvalidField => Report::with_sense(8, SenseKey::IllegalRequest, 0x24, 0x00),
-            Answer::MediumNotPresent => Report::with_sense(9, SenseKey::NotReady, 0x3a, 0x00),
-            Answer::NotReady => Report::with_sense(10, SenseKey::NotReady, 0x04, 0x02),
-            Answer::AddressOutOfRange => Report::with_sense(
+            CommandError::ReservationConflict => Report::without_sense(7, Status::ReservationConflict, 0),
+            CommandError::InvalidField => Report::with_sense(8, SenseKey::IllegalRequest, 0x24, 0x00),
+            CommandError::MediumNotPresent => Report::with_sense(9, SenseKey::NotReady, 0x3a, 0x00),
+            CommandError::NotReady => Report::with_sense(10, SenseKey::NotReady, 0x04, 0x02),
+            CommandError::AddressOutOfRange => Report::with_sense(
                 11,
                 SenseKey::IllegalRequest,
                 0x21,
                 0x00,
             ),
-            Answer::WriteProtected => Report::with_sense(12, SenseKey::DataProtect, 0x27, 0x00),
-            Answer::RemovalPrevented => Report::with_sense(
+            CommandError::WriteProtected => Report::with_sense(12, SenseKey::DataProtect, 0x27, 0x00),
+            CommandError::RemovalPrevented => Report::with_sense(
                 13,
                 SenseKey::IllegalRequest,
                 0x53,
                 0x02,
             ),
-            Answer::ListLengthError => Report::with_sense(14, SenseKey::IllegalRequest, 0x1a, 0x00),
-            Answer::DataPhaseError => Report::with_sense(15, SenseKey::AbortedCommand, 0x4b, 0x00),
-            Answer::InvalidParameter => Report::with_sense(
+            CommandError::ListLengthError => Report::with_sense(14, SenseKey::IllegalRequest, 0x1a, 0x00),
+            CommandError::DataPhaseError => Report::with_sense(15, SenseKey::AbortedCommand, 0x4b, 0x00),
+            CommandError::InvalidParameter => Report::with_sense(
                 16,
                 SenseKey::IllegalRequest,
                 0x26,
@@ -154,17 +172,30 @@ impl Answer {
             ),
         }
     }
+}
 
-    pub fn number(self) -> u8
-        ensures { result ≡ (report self).number }
-    {
-        self.report().number
-    }
+// The number, status and sense data of each answer.
+impl From<Answer> for Report {
+    ghost from_gives = { λ a r. r ≡ report a };
 
-    // The count of bytes put at the front of data-in.
-    pub fn count(self) -> u32
-        ensures { result ≡ (report self).count }
-    {
-        self.report().count
+    fn from(answer: Answer) -> Report {
+        match answer {
+            Ok(count) => Report::without_sense(0, Status::Good, count),
+            Err(error) => error.report(),
+        }
     }
+}
+
+// The number of an answer, as the rules of COMMAND name it: 0 good, and one for each error.
+pub fn number(answer: Answer) -> u8
+    ensures { result ≡ (report answer).number }
+{
+    Report::from(answer).number
+}
+
+// The count of bytes put at the front of data-in.
+pub fn count(answer: Answer) -> u32
+    ensures { result ≡ (report answer).count }
+{
+    Report::from(answer).count
 }

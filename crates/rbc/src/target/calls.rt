@@ -12,7 +12,7 @@ use super::Module;
 use effects::run;
 use ladder::judge;
 use logical_unit::LogicalUnit;
-use sense::Answer;
+use sense::{Answer, CommandError};
 use store::Store;
 
 impl<S: Store> Module<S> {
@@ -32,14 +32,14 @@ impl<S: Store> Module<S> {
                 command,
                 data_in,
             ) {
-                Ok(returned) => Answer::Good(returned),
-                Err(_) => Answer::PowerOff,
+                Ok(returned) => Ok(returned),
+                Err(_) => Err(CommandError::PowerOff),
             },
-            Err(answer) => {
-                if let Answer::UnitAttention(_) = answer {
+            Err(error) => {
+                if let CommandError::UnitAttention(_) = error {
                     self.unit.clear_attention(host);
                 }
-                answer
+                Err(error)
             }
         }
     }
@@ -49,10 +49,10 @@ impl<S: Store> Module<S> {
         ensures { replied result (modeled S.Store.model self.new) ≡ reset S.Store.steps (modeled S.Store.model self.old) }
     {
         if !self.store.power() {
-            return Answer::PowerOff;
+            return Err(CommandError::PowerOff);
         }
         self.unit.reset();
-        Answer::Good(0)
+        Ok(0)
     }
 
     // MAKE: what the pile holds is flushed; the module is made whatever that answers. Every list of calls on it is safe.
