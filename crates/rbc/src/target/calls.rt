@@ -1,6 +1,6 @@
 // COMMAND, RESET and MAKE.
 ghost use Rattle.std.specs.Prelude.{◌≡◌};
-ghost use Rattle.rbc_steps.specs.Module.{exchange, replied, commanded, reset, made_over};
+ghost use Rattle.rbc_steps.specs.Module.{exchange, replied, answer_of, commanded, reset, made_over};
 ghost use Rattle.rbc_steps.specs.Refusals.{RefusalKeeps};
 ghost use Rattle.rbc_steps.specs.Writes.{added, added_count};
 ghost use Rattle.rbc_steps.specs.Calls.{asked};
@@ -13,7 +13,14 @@ use effects::run;
 use ladder::judge;
 use logical_unit::LogicalUnit;
 use sense::{Answer, CommandError};
-use store::Store;
+use store::{Store, StoreError};
+
+// A store that does its part answers no for want of power alone.
+fn answer_of(outcome: Result<u32, StoreError>) -> Answer
+    ensures { result ≡ answer_of outcome }
+{
+    outcome.map_err(|_| CommandError::PowerOff)
+}
 
 impl<S: Store> Module<S> {
     // COMMAND: the ladder, and then what the command does. Data-in past the count of the answer is left as it is.
@@ -25,16 +32,13 @@ impl<S: Store> Module<S> {
         let power = self.store.power();
         let count = self.store.count();
         match judge(&self.unit, host, power, count, cdb, data_out, data_in.len()) {
-            Ok((host, command)) => match run(
+            Ok((host, command)) => answer_of(run(
                 &mut self.store,
                 &mut self.unit,
                 host,
                 command,
                 data_in,
-            ) {
-                Ok(returned) => Ok(returned),
-                Err(_) => Err(CommandError::PowerOff),
-            },
+            )),
             Err(error) => {
                 if let CommandError::UnitAttention(_) = error {
                     self.unit.clear_attention(host);
