@@ -6,7 +6,7 @@ ghost use Rattle.sense.specs.Report.{attention_codes, report};
 ghost use Rattle.sense.specs.Codes.{status_code, key_code};
 
 // A unit attention, the highest first: a pending one yields only to a higher one.
-#[derive(Clone, Copy, PartialEq, Eq, Debug)]
+#[derive(Clone, Copy, PartialEq, Eq, PartialOrd, Ord, Debug)]
 pub enum Attention {
     PowerOnOrReset,
     MediumChanged,
@@ -112,7 +112,7 @@ impl Attention {
 }
 
 impl Answer {
-    // The number, status and sense data of each answer.
+    // The number, status and sense data of each answer. The numbers are those that the rules name.
     pub fn report(self) -> Report
         ensures { result ≡ report self }
     {
