@@ -39,32 +39,11 @@ impl Settings {
     pub fn from_list(list: &[u8]) -> Option<Settings>
         ensures { result ≡ selected list.now }
     {
-        let [
-            _,
-            _,
-            _,
-            _,
-            _,
-            _,
-            cache,
-            _,
-            _,
-            _,
-            _,
-            _,
-            _,
-            _,
-            performance,
-            write,
-            _,
-        ] = list
-        else {
-            return None;
-        };
+        let list: &[u8; 17] = list.try_into().ok()?;
         Some(Settings {
-            wcd: *cache & 1 != 0,
-            performance: *performance,
-            writed: *write & 4 != 0,
+            wcd: list[6] & 1 != 0,
+            performance: list[14],
+            writed: list[15] & 4 != 0,
         })
     }
 

@@ -24,7 +24,7 @@ pub enum Condition {
 pub struct LogicalUnit {
     pub loaded: bool,
     pub condition: Condition,
-    // the host that holds the reservation
+    // the number of the host that holds the reservation; RESERVE asks for no host that is known
     pub holder: Option<u32>,
     // for each host: it prevents the removal of the medium
     pub bars: [bool; 4],
@@ -37,11 +37,7 @@ pub struct LogicalUnit {
 fn higher(pending: Option<Attention>, new: Attention) -> Attention
     ensures { result ≡ higher pending new }
 {
-    match (pending, new) {
-        (Some(Attention::PowerOnOrReset), _) => Attention::PowerOnOrReset,
-        (Some(Attention::MediumChanged), Attention::ParametersChanged) => Attention::MediumChanged,
-        (_, new) => new,
-    }
+    pending.map_or(new, |pending| pending.min(new))
 }
 
 impl LogicalUnit {

@@ -8,7 +8,7 @@ ghost use Rattle.sense.specs.Report.{attention_codes, error_report, report};
 use thiserror::Error;
 
 // A unit attention, the highest first: a pending one yields only to a higher one.
-#[derive(Clone, Copy, PartialEq, Eq, Debug)]
+#[derive(Clone, Copy, PartialEq, Eq, PartialOrd, Ord, Debug)]
 pub enum Attention {
     PowerOnOrReset,
     MediumChanged,
@@ -131,7 +131,7 @@ impl Attention {
 }
 
 impl CommandError {
-    // The number, status and sense data of each error.
+    // The number, status and sense data of each error. The numbers are those that the rules name.
     pub fn report(self) -> Report
         ensures { result ≡ error_report self }
     {
