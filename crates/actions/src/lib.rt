@@ -2,7 +2,7 @@
 #![tactic(auto)]
 
 mod data;
-mod pile;
+mod device;
 
 pub use data::{inquire, report_capacity, sense_mode};
-pub use pile::{mode_select, start_stop, write};
+pub use device::Device;

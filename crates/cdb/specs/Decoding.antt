@@ -1,8 +1,8 @@
 -- How a CDB and the host's data-out give a command.
 use Rattle.std.specs.Prelude.{ℕ, ◌-◌, ◌*◌, ◌/◌, cond, List, [], ◌∷◌, length, take, is_some, Some, None, Ok, Err, Option, Result, ◌==◌, bit_and, nat_le}
 use Rattle.host_data.specs.Fields.{byte, bit, be16, be32}
-use Rattle.sense.specs.declared.Answer.{Answer}
-use Rattle.sense.specs.declared.Answer.TheVariants.{InvalidOpcode, ShortCdb, ControlSet}
+use Rattle.sense.specs.declared.CommandError.{CommandError}
+use Rattle.sense.specs.declared.CommandError.TheVariants.{InvalidOpcode, ShortCdb, ControlSet}
 use Rattle.sense.specs.Ladder.{Rung, rung, first_no, unless_refused}
 use Rattle.cdb.specs.declared.opcode.SixByte.{SixByte}
 use Rattle.cdb.specs.declared.opcode.SixByte.TheVariants as six
@@ -29,6 +29,11 @@ opcode c =
     (cond (c == 0x2a) (Some (Ten ten.Write))
     (cond (c == 0x2f) (Some (Ten ten.Verify))
     (cond (c == 0x35) (Some (Ten ten.SynchronizeCache)) None))))))))))))
+
+-- the operation code, if it is known
+abbrev pub known : Option Opcode → Result Opcode CommandError
+known None = Err InvalidOpcode
+known (Some o) = Ok o
 
 abbrev pub order_six : SixByte → List ℕ → List ℕ → Order
 order_six six.TestUnitReady cdb out = test_unit_ready
@@ -69,13 +74,13 @@ cdb_rungs code cdb =
     ∷ rung (byte cdb (cdb_size code - 1) == 0) ControlSet
     ∷ []
 
-abbrev pub decoded_by : Option Opcode → List ℕ → List ℕ → Result Order Answer
+abbrev pub decoded_by : Option Opcode → List ℕ → List ℕ → Result Order CommandError
 decoded_by code cdb out = unless_refused (first_no (cdb_rungs code cdb)) (order_by code cdb out)
 
-abbrev pub decoded : List ℕ → List ℕ → Result Order Answer
+abbrev pub decoded : List ℕ → List ℕ → Result Order CommandError
 decoded cdb out = decoded_by (opcode_of cdb) cdb out
 
 -- what the code decodes, by what its references point to
-abbrev pub seen : Result Command Answer → Result Order Answer
+abbrev pub seen : Result Command CommandError → Result Order CommandError
 seen (Ok c) = Ok (order c)
 seen (Err a) = Err a

@@ -5,19 +5,18 @@ ghost use Rattle.cdb.specs.Decoding.{decoded_by, decoded, seen};
 
 use crate::opcode::{Opcode, SixByte, TenByte};
 use commands::Command;
-use host_data::front;
-use sense::Answer;
+use host_data::{Extent, front};
+use sense::CommandError;
 
-const BLOCK_BYTES: usize = 512;
-
-fn decode_six<'a>(six: SixByte, cdb: &[u8], data_out: &'a [u8]) -> Result<Command<'a>, Answer>
+// Six and ten bytes have a function each: a CDB is to be taken apart by a pattern that names its bytes.
+fn decode_six<'a>(six: SixByte, cdb: &[u8], data_out: &'a [u8]) -> Result<Command<'a>, CommandError>
     ensures { seen result ≡ decoded_by (Some (Six six)) cdb.now data_out.now }
 {
     let [_, byte1, byte2, _, byte4, control, ..] = cdb else {
-        return Err(Answer::ShortCdb);
+        return Err(CommandError::ShortCdb);
     };
     if *control != 0 {
-        return Err(Answer::ControlSet);
+        return Err(CommandError::ControlSet);
     }
     Ok(match six {
         SixByte::TestUnitReady => Command::TestUnitReady,
@@ -28,27 +27,27 @@ fn decode_six<'a>(six: SixByte, cdb: &[u8], data_out: &'a [u8]) -> Result<Comman
         },
         SixByte::ModeSelect => Command::ModeSelect {
             length: *byte4,
-            list: front(data_out, *byte4 as usize),
+            list: front(data_out, usize::from(*byte4)),
         },
         SixByte::Reserve => Command::Reserve,
         SixByte::Release => Command::Release,
         SixByte::ModeSense => Command::ModeSense {
-            control: *byte2 >> 6,
+            control: (*byte2 >> 6).into(),
             page: *byte2 & 0x3f,
             allocation: *byte4,
         },
         SixByte::StartStopUnit => Command::StartStopUnit {
-            condition: *byte4 >> 4,
+            condition: (*byte4 >> 4).into(),
             start: *byte4 & 1 != 0,
             load_eject: *byte4 & 2 != 0,
         },
         SixByte::PreventAllow => Command::PreventAllow {
-            prevent: *byte4 & 3,
+            removal: (*byte4 & 3).into(),
         },
     })
 }
 
-fn decode_ten<'a>(ten: TenByte, cdb: &[u8], data_out: &'a [u8]) -> Result<Command<'a>, Answer>
+fn decode_ten<'a>(ten: TenByte, cdb: &[u8], data_out: &'a [u8]) -> Result<Command<'a>, CommandError>
     ensures { seen result ≡ decoded_by (Some (Ten ten)) cdb.now data_out.now }
 {
     let [
@@ -65,47 +64,37 @@ fn decode_ten<'a>(ten: TenByte, cdb: &[u8], data_out: &'a [u8]) -> Result<Comman
         ..
     ] = cdb
     else {
-        return Err(Answer::ShortCdb);
+        return Err(CommandError::ShortCdb);
     };
     if *control != 0 {
-        return Err(Answer::ControlSet);
+        return Err(CommandError::ControlSet);
     }
     let relative = *byte1 & 1 != 0;
-    let address = u32::from_be_bytes([*byte2, *byte3, *byte4, *byte5]);
-    let length = u16::from_be_bytes([*byte7, *byte8]);
+    let extent = Extent {
+        address: u32::from_be_bytes([*byte2, *byte3, *byte4, *byte5]),
+        length: u16::from_be_bytes([*byte7, *byte8]),
+    };
     Ok(match ten {
         TenByte::ReadCapacity => Command::ReadCapacity,
-        TenByte::Read => Command::Read {
-            relative,
-            address,
-            length,
-        },
+        TenByte::Read => Command::Read { relative, extent },
         TenByte::Write => Command::Write {
             relative,
             force: *byte1 & 8 != 0,
-            address,
-            length,
-            data: front(data_out, BLOCK_BYTES * length as usize),
+            extent,
+            data: front(data_out, extent.byte_count()),
         },
-        TenByte::Verify => Command::Verify {
-            relative,
-            address,
-            length,
-        },
+        TenByte::Verify => Command::Verify { relative, extent },
         TenByte::SynchronizeCache => Command::SynchronizeCache,
     })
 }
 
 // The command of a CDB, with its data if the host sends some; or why the CDB has none.
-pub fn decode<'a>(cdb: &[u8], data_out: &'a [u8]) -> Result<Command<'a>, Answer>
+pub fn decode<'a>(cdb: &[u8], data_out: &'a [u8]) -> Result<Command<'a>, CommandError>
     ensures { seen result ≡ decoded cdb.now data_out.now }
 {
-    let [code, ..] = cdb else {
-        return Err(Answer::InvalidOpcode);
-    };
-    match Opcode::from_code(*code) {
-        Some(Opcode::Six(six)) => decode_six(six, cdb, data_out),
-        Some(Opcode::Ten(ten)) => decode_ten(ten, cdb, data_out),
-        None => Err(Answer::InvalidOpcode),
+    let code = cdb.first().ok_or(CommandError::InvalidOpcode)?;
+    match Opcode::try_from(*code)? {
+        Opcode::Six(six) => decode_six(six, cdb, data_out),
+        Opcode::Ten(ten) => decode_ten(ten, cdb, data_out),
     }
 }

@@ -42,107 +42,32 @@ code synchronize_cache = 0x35
 
 -- What f says of one kind of command, by its fields; of every other command `other`.
 abbrev pub on_inquiry : {A : Type 0} → A → (Bool → ℕ → ℕ → A) → Order → A
-on_inquiry other f test_unit_ready = other
 on_inquiry other f (inquiry v p a) = f v p a
-on_inquiry other f (mode_select n l) = other
-on_inquiry other f reserve = other
-on_inquiry other f release = other
-on_inquiry other f (mode_sense c p a) = other
-on_inquiry other f (start_stop p s l) = other
-on_inquiry other f (prevent_allow p) = other
-on_inquiry other f read_capacity = other
-on_inquiry other f (read r a n) = other
-on_inquiry other f (write r u a n d) = other
-on_inquiry other f (verify r a n) = other
-on_inquiry other f synchronize_cache = other
+on_inquiry other f _ = other
 
 abbrev pub on_mode_select : {A : Type 0} → A → (ℕ → List ℕ → A) → Order → A
-on_mode_select other f test_unit_ready = other
-on_mode_select other f (inquiry v p a) = other
 on_mode_select other f (mode_select n l) = f n l
-on_mode_select other f reserve = other
-on_mode_select other f release = other
-on_mode_select other f (mode_sense c p a) = other
-on_mode_select other f (start_stop p s l) = other
-on_mode_select other f (prevent_allow p) = other
-on_mode_select other f read_capacity = other
-on_mode_select other f (read r a n) = other
-on_mode_select other f (write r u a n d) = other
-on_mode_select other f (verify r a n) = other
-on_mode_select other f synchronize_cache = other
+on_mode_select other f _ = other
 
 abbrev pub on_mode_sense : {A : Type 0} → A → (ℕ → ℕ → ℕ → A) → Order → A
-on_mode_sense other f test_unit_ready = other
-on_mode_sense other f (inquiry v p a) = other
-on_mode_sense other f (mode_select n l) = other
-on_mode_sense other f reserve = other
-on_mode_sense other f release = other
 on_mode_sense other f (mode_sense c p a) = f c p a
-on_mode_sense other f (start_stop p s l) = other
-on_mode_sense other f (prevent_allow p) = other
-on_mode_sense other f read_capacity = other
-on_mode_sense other f (read r a n) = other
-on_mode_sense other f (write r u a n d) = other
-on_mode_sense other f (verify r a n) = other
-on_mode_sense other f synchronize_cache = other
+on_mode_sense other f _ = other
 
 abbrev pub on_start_stop : {A : Type 0} → A → (ℕ → Bool → Bool → A) → Order → A
-on_start_stop other f test_unit_ready = other
-on_start_stop other f (inquiry v p a) = other
-on_start_stop other f (mode_select n l) = other
-on_start_stop other f reserve = other
-on_start_stop other f release = other
-on_start_stop other f (mode_sense c p a) = other
 on_start_stop other f (start_stop p s l) = f p s l
-on_start_stop other f (prevent_allow p) = other
-on_start_stop other f read_capacity = other
-on_start_stop other f (read r a n) = other
-on_start_stop other f (write r u a n d) = other
-on_start_stop other f (verify r a n) = other
-on_start_stop other f synchronize_cache = other
+on_start_stop other f _ = other
 
 abbrev pub on_prevent_allow : {A : Type 0} → A → (ℕ → A) → Order → A
-on_prevent_allow other f test_unit_ready = other
-on_prevent_allow other f (inquiry v p a) = other
-on_prevent_allow other f (mode_select n l) = other
-on_prevent_allow other f reserve = other
-on_prevent_allow other f release = other
-on_prevent_allow other f (mode_sense c p a) = other
-on_prevent_allow other f (start_stop p s l) = other
 on_prevent_allow other f (prevent_allow p) = f p
-on_prevent_allow other f read_capacity = other
-on_prevent_allow other f (read r a n) = other
-on_prevent_allow other f (write r u a n d) = other
-on_prevent_allow other f (verify r a n) = other
-on_prevent_allow other f synchronize_cache = other
+on_prevent_allow other f _ = other
 
 -- READ, WRITE and VERIFY
 abbrev pub on_transfer : {A : Type 0} → A → (Bool → ℕ → ℕ → A) → Order → A
-on_transfer other f test_unit_ready = other
-on_transfer other f (inquiry v p a) = other
-on_transfer other f (mode_select n l) = other
-on_transfer other f reserve = other
-on_transfer other f release = other
-on_transfer other f (mode_sense c p a) = other
-on_transfer other f (start_stop p s l) = other
-on_transfer other f (prevent_allow p) = other
-on_transfer other f read_capacity = other
 on_transfer other f (read r a n) = f r a n
 on_transfer other f (write r u a n d) = f r a n
 on_transfer other f (verify r a n) = f r a n
-on_transfer other f synchronize_cache = other
+on_transfer other f _ = other
 
 abbrev pub on_write : {A : Type 0} → A → (ℕ → ℕ → List ℕ → A) → Order → A
-on_write other f test_unit_ready = other
-on_write other f (inquiry v p a) = other
-on_write other f (mode_select n l) = other
-on_write other f reserve = other
-on_write other f release = other
-on_write other f (mode_sense c p a) = other
-on_write other f (start_stop p s l) = other
-on_write other f (prevent_allow p) = other
-on_write other f read_capacity = other
-on_write other f (read r a n) = other
 on_write other f (write r u a n d) = f a n d
-on_write other f (verify r a n) = other
-on_write other f synchronize_cache = other
+on_write other f _ = other

@@ -1,11 +1,8 @@
 -- What is asked of each command before it runs.
 use Rattle.std.specs.Prelude.{ℕ, ◌+◌, ◌*◌, min, Bool, true, false, not, ◌&&◌, ◌||◌, List, [], ◌∷◌, length, ◌==◌, bit_and, nat_eq, nat_le}
-use Rattle.commands.specs.Order.{Order, test_unit_ready, inquiry, mode_select, reserve, release, mode_sense, start_stop, prevent_allow, read_capacity, read, write, verify, synchronize_cache, code, on_inquiry, on_mode_select, on_mode_sense, on_start_stop, on_prevent_allow, on_transfer, on_write}
+use Rattle.commands.specs.Order.{Order, inquiry, mode_sense, read_capacity, read, code, on_inquiry, on_mode_select, on_mode_sense, on_start_stop, on_prevent_allow, on_transfer, on_write}
+use Rattle.commands.specs.Codes.{one_of}
 use Rattle.host_data.specs.Fields.{byte}
-
-abbrev pub one_of : ℕ → List ℕ → Bool
-one_of n [] = false
-one_of n (m ∷ ms) = n == m || one_of n ms
 
 -- is served while a unit attention is pending
 abbrev pub is_inquiry : Order → Bool
@@ -45,19 +42,11 @@ valid_list_length o = on_mode_select true (λ n l. (n == 0) || n == 17) o
 
 -- how many bytes it returns
 abbrev pub returned : Order → ℕ
-returned test_unit_ready = 0
 returned (inquiry v p a) = min a 36
-returned (mode_select n l) = 0
-returned reserve = 0
-returned release = 0
 returned (mode_sense c p a) = min a 17
-returned (start_stop p s l) = 0
-returned (prevent_allow p) = 0
 returned read_capacity = 8
 returned (read r a n) = 512 * n
-returned (write r u a n d) = 0
-returned (verify r a n) = 0
-returned synchronize_cache = 0
+returned _ = 0
 
 -- the host has sent the bytes that it takes
 abbrev pub supplied : Order → Bool

@@ -1,5 +1,8 @@
 // A command with its fields; WRITE and MODE SELECT borrow the host's data.
-#[derive(Clone, Copy)]
+use crate::fields::{PageControl, PowerCondition, Removal};
+use host_data::Extent;
+
+#[derive(Clone, Copy, PartialEq, Eq, Debug)]
 pub enum Command<'a> {
     TestUnitReady,
     Inquiry {
@@ -15,37 +18,33 @@ pub enum Command<'a> {
     Reserve,
     Release,
     ModeSense {
-        // which values of the page: 0 and 3 the current ones, 2 the defaults
-        control: u8,
+        control: PageControl,
         page: u8,
         allocation: u8,
     },
     StartStopUnit {
-        condition: u8,
+        condition: PowerCondition,
         start: bool,
         load_eject: bool,
     },
     PreventAllow {
-        prevent: u8,
+        removal: Removal,
     },
     ReadCapacity,
     Read {
         relative: bool,
-        address: u32,
-        length: u16,
+        extent: Extent,
     },
     Write {
         relative: bool,
         // FUA: force unit access
         force: bool,
-        address: u32,
-        length: u16,
+        extent: Extent,
         data: &'a [u8],
     },
     Verify {
         relative: bool,
-        address: u32,
-        length: u16,
+        extent: Extent,
     },
     SynchronizeCache,
 }

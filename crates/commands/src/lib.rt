@@ -2,6 +2,8 @@
 #![tactic(auto)]
 
 mod command;
+mod fields;
 mod requirements;
 
 pub use command::Command;
+pub use fields::{PageControl, PowerCondition, Removal};

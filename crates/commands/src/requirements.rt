@@ -4,6 +4,20 @@ ghost use Rattle.commands.specs.Carried.{order};
 ghost use Rattle.commands.specs.Requirements.{is_inquiry, passes_reservation, valid_fields, uses_medium, in_range, writes, unloads, valid_list_length, returned, supplied, mode_list, valid_parameters};
 
 use crate::command::Command;
+use crate::fields::{PageControl, PowerCondition, Removal};
+
+const INQUIRY_BYTES: usize = 36;
+
+// a header of four bytes, and then the page
+const MODE_BYTES: usize = 17;
+
+const MODE_PAGE: u8 = 0x06;
+
+const ALL_PAGES: u8 = 0x3f;
+
+const MODE_PAGE_LENGTH: u8 = 11;
+
+const CAPACITY_BYTES: usize = 8;
 
 impl Command<'_> {
     // It is served while a unit attention is pending.
@@ -19,12 +33,12 @@ impl Command<'_> {
     {
         match self {
             Command::Inquiry { .. } | Command::Release | Command::ReadCapacity => true,
-            Command::PreventAllow { prevent } => prevent == 0,
+            Command::PreventAllow { removal } => removal == Removal::Allowed,
             Command::StartStopUnit {
                 condition,
                 start,
                 ..
-            } => condition == 0 && start,
+            } => condition == PowerCondition::NoChange && start,
             _ => false,
         }
     }
@@ -35,10 +49,16 @@ impl Command<'_> {
         match self {
             Command::Inquiry { vital, page, .. } => !vital && page == 0,
             Command::ModeSense { control, page, .. } => {
-                matches!(control, 0 | 2 | 3) && matches!(page, 0x06 | 0x3f)
+                matches!(
+                    control,
+                    PageControl::Current | PageControl::Defaults | PageControl::Saved
+                ) && matches!(page, MODE_PAGE | ALL_PAGES)
             }
-            Command::StartStopUnit { condition, .. } => matches!(condition, 0 | 1 | 2 | 3 | 5 | 7),
-            Command::PreventAllow { prevent } => matches!(prevent, 0 | 1),
+            Command::StartStopUnit { condition, .. } => !matches!(
+                condition,
+                PowerCondition::Reserved(_)
+            ),
+            Command::PreventAllow { removal } => !matches!(removal, Removal::Reserved(_)),
             Command::Read { relative, .. }
             | Command::Write { relative, .. }
             | Command::Verify { relative, .. } => !relative,
@@ -66,21 +86,9 @@ impl Command<'_> {
         ensures { result ≡ in_range count (order self.entry) }
     {
         match self {
-            Command::Read {
-                address,
-                length,
-                ..
-            }
-            | Command::Write {
-                address,
-                length,
-                ..
-            }
-            | Command::Verify {
-                address,
-                length,
-                ..
-            } => u64::from(address) + u64::from(length) <= u64::from(count),
+            Command::Read { extent, .. }
+            | Command::Write { extent, .. }
+            | Command::Verify { extent, .. } => extent.ends_within(count),
             _ => true,
         }
     }
@@ -99,7 +107,7 @@ impl Command<'_> {
                 condition,
                 start,
                 load_eject,
-            } => condition == 0 && !start && load_eject,
+            } => condition == PowerCondition::NoChange && !start && load_eject,
             _ => false,
         }
     }
@@ -108,7 +116,7 @@ impl Command<'_> {
         ensures { result ≡ valid_list_length (order self.entry) }
     {
         match self {
-            Command::ModeSelect { length, .. } => length == 0 || length == 17,
+            Command::ModeSelect { length, .. } => length == 0 || usize::from(length) == MODE_BYTES,
             _ => true,
         }
     }
@@ -118,10 +126,10 @@ impl Command<'_> {
         ensures { result ≡ returned (order self.entry) }
     {
         match self {
-            Command::Inquiry { allocation, .. } => (allocation as usize).min(36),
-            Command::ModeSense { allocation, .. } => (allocation as usize).min(17),
-            Command::ReadCapacity => 8,
-            Command::Read { length, .. } => 512 * length as usize,
+            Command::Inquiry { allocation, .. } => usize::from(allocation).min(INQUIRY_BYTES),
+            Command::ModeSense { allocation, .. } => usize::from(allocation).min(MODE_BYTES),
+            Command::ReadCapacity => CAPACITY_BYTES,
+            Command::Read { extent, .. } => extent.byte_count(),
             _ => 0,
         }
     }
@@ -131,8 +139,8 @@ impl Command<'_> {
         ensures { result ≡ supplied (order self.entry) }
     {
         match self {
-            Command::ModeSelect { length, list } => list.len() == length as usize,
-            Command::Write { length, data, .. } => data.len() == 512 * length as usize,
+            Command::ModeSelect { length, list } => list.len() == usize::from(length),
+            Command::Write { extent, data, .. } => data.len() == extent.byte_count(),
             _ => true,
         }
     }
@@ -158,5 +166,9 @@ fn is_mode_list(list: &[u8]) -> bool
     let [_, byte1, byte2, byte3, page, length, ..] = list else {
         return false;
     };
-    *byte1 == 0 && *byte2 == 0 && *byte3 == 0 && *page & 0x3f == 0x06 && *length == 11
+    *byte1 == 0
+        && *byte2 == 0
+        && *byte3 == 0
+        && *page & 0x3f == MODE_PAGE
+        && *length == MODE_PAGE_LENGTH
 }

@@ -1,42 +1,43 @@
 // What each command does once it has passed the ladder, over a store and the logical unit.
 #![tactic(auto)]
 
-ghost use Rattle.std.specs.Prelude.{◌≡◌, ◌<◌, length};
+ghost use Rattle.std.specs.Prelude.{◌≡◌, length};
 ghost use Rattle.store.specs.Steps.{stepped};
 ghost use Rattle.commands.specs.Carried.{order};
+ghost use Rattle.logical_unit.specs.Hosts.{host_number};
 ghost use Rattle.ladder.specs.Ladder.{Runs};
-ghost use Rattle.rbc_steps.specs.Module.{joined, exchange, run};
+ghost use Rattle.rbc_steps.specs.Module.{exchange, run};
+ghost use Rattle.actions.specs.Modeled.{device_model};
 
-use actions::{inquire, mode_select, report_capacity, sense_mode, start_stop, write};
-use commands::Command;
-use logical_unit::LogicalUnit;
+use actions::{Device, inquire, report_capacity, sense_mode};
+use commands::{Command, Removal};
+use logical_unit::Host;
 use store::{Store, StoreError};
 use transfer::{read_blocks, verify_blocks};
 
 // A command that has passed the ladder; the count of bytes that it returns.
 pub fn run<S: Store>(
-    store: &mut S,
-    unit: &mut LogicalUnit,
-    host: u32,
+    device: &mut Device<S>,
+    host: Host,
     command: Command<'_>,
     data_in: &mut [u8],
 ) -> Result<u32, StoreError>
-    requires { (host < 4) × (Runs (S.Store.steps.count (S.Store.model store.old)) (length data_in.old) (order command)) }
-    ensures { stepped result (exchange (joined (S.Store.model store.new) unit.new) data_in.new) ≡ run S.Store.steps host (order command.entry) (exchange (joined (S.Store.model store.old) unit.old) data_in.old) }
+    requires { Runs (S.Store.steps.count (S.Store.model device.old.store)) (length data_in.old) (order command) }
+    ensures { stepped result (exchange (device_model S.Store.model device.new) data_in.new) ≡ run S.Store.steps (host_number host) (order command.entry) (exchange (device_model S.Store.model device.old) data_in.old) }
 {
     match command {
         Command::TestUnitReady => Ok(0),
         Command::Inquiry { allocation, .. } => Ok(inquire(data_in, allocation)),
         Command::ModeSelect { list, .. } => {
-            mode_select(store, unit, host, list)?;
+            device.mode_select(host, list)?;
             Ok(0)
         }
         Command::Reserve => {
-            unit.reserve(host);
+            device.unit.reserve(host.number());
             Ok(0)
         }
         Command::Release => {
-            unit.release(host);
+            device.unit.release(host.number());
             Ok(0)
         }
         Command::ModeSense {
@@ -44,11 +45,11 @@ pub fn run<S: Store>(
             allocation,
             ..
         } => {
-            let settings = unit.shown_settings(control);
-            Ok(sense_mode(data_in, settings, store.count(), allocation))
+            let settings = device.unit.shown_settings(control);
+            Ok(sense_mode(data_in, settings, device.store.count(), allocation))
         }
-        Command::PreventAllow { prevent } => {
-            unit.set_bar(host, prevent == 1);
+        Command::PreventAllow { removal } => {
+            device.unit.set_bar(host, removal == Removal::Prevented);
             Ok(0)
         }
         Command::StartStopUnit {
@@ -56,38 +57,29 @@ pub fn run<S: Store>(
             start,
             load_eject,
         } => {
-            start_stop(store, unit, condition, start, load_eject)?;
+            device.start_stop(condition, start, load_eject)?;
             Ok(0)
         }
-        Command::ReadCapacity => Ok(report_capacity(data_in, store.count())),
-        Command::Read {
-            address,
-            length,
-            ..
-        } => {
-            read_blocks(store, address, length, data_in)?;
-            Ok(512 * u32::from(length))
+        Command::ReadCapacity => Ok(report_capacity(data_in, device.store.count())),
+        Command::Read { extent, .. } => {
+            read_blocks(&mut device.store, extent, data_in)?;
+            Ok(extent.byte_count() as u32)
         }
         Command::Write {
             force,
-            address,
-            length,
+            extent,
             data,
             ..
         } => {
-            write(store, unit, force, address, length, data)?;
+            device.write(force, extent, data)?;
             Ok(0)
         }
-        Command::Verify {
-            address,
-            length,
-            ..
-        } => {
-            verify_blocks(store, address, length)?;
+        Command::Verify { extent, .. } => {
+            verify_blocks(&mut device.store, extent)?;
             Ok(0)
         }
         Command::SynchronizeCache => {
-            store.flush()?;
+            device.store.flush()?;
             Ok(0)
         }
     }

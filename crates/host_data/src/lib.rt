@@ -1,32 +1,8 @@
-// Bytes of the host's buffers: the front of its data-out, and what is put into its data-in.
+// What hosts send and get: the bytes of their buffers, and the blocks that they name.
 #![tactic(auto)]
 
-ghost use Rattle.std.specs.Prelude.{◌≡◌, ◌+◌, ◌≤◌, min, length, take};
-ghost use Rattle.store.specs.Bytes.{placed};
+mod buffers;
+mod extent;
 
-// The first n bytes, or all if there are fewer.
-pub fn front(bytes: &[u8], n: usize) -> &[u8]
-    ensures value { result.now ≡ take n bytes.now }
-    ensures len { length result.now ≡ min n (length bytes.now) }
-{
-    if n < bytes.len() { &bytes[0..n] } else { bytes }
-}
-
-// Writes the bytes into data-in from place `at` on, and no other.
-pub fn place(data_in: &mut [u8], at: usize, bytes: &[u8])
-    requires { at + length bytes.now ≤ length data_in.old }
-    ensures { data_in.new ≡ placed data_in.old at bytes.now }
-{
-    data_in[at..at + bytes.len()].copy_from_slice(bytes);
-}
-
-// Puts at most `allocation` of the bytes at the front of data-in, and says how many.
-pub fn deliver(data_in: &mut [u8], bytes: &[u8], allocation: u8) -> u32
-    requires { min allocation (length bytes.now) ≤ length data_in.old }
-    ensures count { result ≡ min allocation (length bytes.now) }
-    ensures front { data_in.new ≡ placed data_in.old 0 (take allocation bytes.now) }
-{
-    let part = front(bytes, usize::from(allocation));
-    place(data_in, 0, part);
-    part.len() as u32
-}
+pub use buffers::{deliver, front, place};
+pub use extent::Extent;

@@ -1,9 +1,9 @@
 -- What the ladder says of a command that passes it, and of a refusal.
-use Rattle.std.proofs.Common.{◌≡◌, ℕ, ◌<◌, Bool, true, cond, not, ◌||◌, ltb, leb, List, ◌++◌, take, drop, Ok, Err, Result, sym, refl, ap, ◌∙◌, subst, ap₂, arith}
+use Rattle.std.proofs.Common.{◌≡◌, ℕ, ◌<◌, Bool, true, cond, not, ◌||◌, ltb, leb, List, ◌++◌, Ok, Err, Result, sym, refl, ap, ◌∙◌, subst, ap₂, arith}
 use mathlib.Core.Path.{fun_ext}
 use Rattle.std.proofs.lemmas.Bool.{and_parts, lt-ltb}
-use Rattle.sense.specs.declared.Answer.{Answer}
-use Rattle.sense.specs.declared.Answer.TheVariants as answer
+use Rattle.sense.specs.declared.CommandError.{CommandError}
+use Rattle.sense.specs.declared.CommandError.TheVariants as error
 use Rattle.sense.specs.declared.Attention.{Attention}
 use Rattle.sense.specs.declared.Attention.TheVariants.{PowerOnOrReset, MediumChanged, ParametersChanged}
 use Rattle.sense.specs.Report.{Refused}
@@ -14,14 +14,14 @@ use Rattle.cdb.specs.Decoding.{opcode_of, order_by, cdb_rungs, decoded}
 use Rattle.commands.specs.Requirements.{passes_reservation, in_range, supplied, returned}
 use Rattle.logical_unit.specs.declared.LogicalUnit.{LogicalUnit}
 use Rattle.logical_unit.specs.State.{pending}
-use Rattle.ladder.specs.Ladder.{held_by_other, told, command_rungs, ladder, judged}
+use Rattle.ladder.specs.Ladder.{held_by_other, told, standing_rungs, data_rungs, command_rungs, ladder, judged}
 
 -- a decoded command, and what it then goes through
-abbrev bound : Result Order Answer → (Order → Result Order Answer) → Result Order Answer
+abbrev bound : Result Order CommandError → (Order → Result Order CommandError) → Result Order CommandError
 bound (Ok o) f = f o
 bound (Err a) f = Err a
 
-split : (c : Result (Unit {0}) Answer) (r : Order → Result (Unit {0}) Answer) (o : Order)
+split : (c : Result (Unit {0}) CommandError) (r : Order → Result (Unit {0}) CommandError) (o : Order)
     → unless_refused (after c (r o)) o ≡ bound (unless_refused c o) (λ o'. unless_refused (r o') o')
 split (Ok u) r o = refl
 split (Err a) r o = refl
@@ -34,36 +34,36 @@ module _ (u : LogicalUnit) (h : ℕ) (power : Bool) (count : ℕ) (cdb out : Lis
   judged_on :
       ltb h 4 ≡ true → power ≡ true
       → judged u h power count cdb out room
-      ≡ bound (decoded cdb out) (λ o. unless_refused (after (first_no (take 5 (tests o))) (first_no (drop 5 (tests o)))) o)
+      ≡ bound (decoded cdb out) (λ o. unless_refused (after (first_no (standing_rungs u h o)) (first_no (data_rungs u count room o))) o)
   judged_on known on =
       let o = order_by (opcode_of cdb) cdb out in
-      ap₂ (λ (v w : Bool). unless_refused (cond v (cond w (first_no (cdb_rungs (opcode_of cdb) cdb ++ tests o)) (Err answer.PowerOff)) (Err answer.NoSuchHost)) o) known on
-      ∙ ap (λ (r : Result (Unit {0}) Answer). unless_refused r o) (first_no_append (cdb_rungs (opcode_of cdb) cdb) (tests o))
+      ap₂ (λ (v w : Bool). unless_refused (cond v (cond w (first_no (cdb_rungs (opcode_of cdb) cdb ++ tests o)) (Err error.PowerOff)) (Err error.NoSuchHost)) o) known on
+      ∙ ap (λ (r : Result (Unit {0}) CommandError). unless_refused r o) (first_no_append (cdb_rungs (opcode_of cdb) cdb) (tests o))
       ∙ split (first_no (cdb_rungs (opcode_of cdb) cdb)) (λ o'. first_no (tests o')) o
-      ∙ ap (λ (f : Order → Result (Unit {0}) Answer). bound (decoded cdb out) (λ o'. unless_refused (f o') o')) (fun_ext (λ o'. first_no_append (take 5 (tests o')) (drop 5 (tests o'))))
+      ∙ ap (λ (f : Order → Result (Unit {0}) CommandError). bound (decoded cdb out) (λ o'. unless_refused (f o') o')) (fun_ext (λ o'. first_no_append (standing_rungs u h o') (data_rungs u count room o')))
 
   -- how the first refusal comes about, and how there is none
   module _ (known : h < 4) (on : power ≡ true) where
-    pub no_command : {a : Answer} → Err a ≡ decoded cdb out → Err a ≡ judged u h power count cdb out room
+    pub no_command : {a : CommandError} → Err a ≡ decoded cdb out → Err a ≡ judged u h power count cdb out room
     no_command d =
-        ap (λ (r : Result Order Answer). bound r (λ o. unless_refused (after (first_no (take 5 (tests o))) (first_no (drop 5 (tests o)))) o)) d
+        ap (λ (r : Result Order CommandError). bound r (λ o. unless_refused (after (first_no (standing_rungs u h o)) (first_no (data_rungs u count room o))) o)) d
         ∙ sym (judged_on (lt-ltb h 4 known) on)
 
-    goes_on : {o : Order} (v w : Result (Unit {0}) Answer) → Ok o ≡ decoded cdb out → v ≡ first_no (take 5 (tests o)) → w ≡ first_no (drop 5 (tests o))
+    goes_on : {o : Order} (v w : Result (Unit {0}) CommandError) → Ok o ≡ decoded cdb out → v ≡ first_no (standing_rungs u h o) → w ≡ first_no (data_rungs u count room o)
         → unless_refused (after v w) o ≡ judged u h power count cdb out room
     goes_on {o} v w d i j =
-        ap₂ (λ (r r' : Result (Unit {0}) Answer). unless_refused (after r r') o) i j
-        ∙ ap (λ (r : Result Order Answer). bound r (λ o'. unless_refused (after (first_no (take 5 (tests o'))) (first_no (drop 5 (tests o')))) o')) d
+        ap₂ (λ (r r' : Result (Unit {0}) CommandError). unless_refused (after r r') o) i j
+        ∙ ap (λ (r : Result Order CommandError). bound r (λ o'. unless_refused (after (first_no (standing_rungs u h o')) (first_no (data_rungs u count room o'))) o')) d
         ∙ sym (judged_on (lt-ltb h 4 known) on)
 
-    pub not_admitted : {o : Order} {a : Answer} → Ok o ≡ decoded cdb out → Err a ≡ first_no (take 5 (tests o)) → Err a ≡ judged u h power count cdb out room
-    not_admitted {o} {a} d i = goes_on (Err a) (first_no (drop 5 (tests o))) d i refl
+    pub not_admitted : {o : Order} {a : CommandError} → Ok o ≡ decoded cdb out → Err a ≡ first_no (standing_rungs u h o) → Err a ≡ judged u h power count cdb out room
+    not_admitted {o} {a} d i = goes_on (Err a) (first_no (data_rungs u count room o)) d i refl
 
-    pub not_accepted : {o : Order} {a : Answer} → Ok o ≡ decoded cdb out → Ok tt ≡ first_no (take 5 (tests o)) → Err a ≡ first_no (drop 5 (tests o))
+    pub not_accepted : {o : Order} {a : CommandError} → Ok o ≡ decoded cdb out → Ok tt ≡ first_no (standing_rungs u h o) → Err a ≡ first_no (data_rungs u count room o)
         → Err a ≡ judged u h power count cdb out room
     not_accepted {a} d i j = goes_on (Ok tt) (Err a) d i j
 
-    pub runs_on : {o : Order} → Ok o ≡ decoded cdb out → Ok tt ≡ first_no (take 5 (tests o)) → Ok tt ≡ first_no (drop 5 (tests o)) → Ok o ≡ judged u h power count cdb out room
+    pub runs_on : {o : Order} → Ok o ≡ decoded cdb out → Ok tt ≡ first_no (standing_rungs u h o) → Ok tt ≡ first_no (data_rungs u count room o) → Ok o ≡ judged u h power count cdb out room
     runs_on d i j = goes_on (Ok tt) (Ok tt) d i j
 
   -- a command that passes every test
@@ -92,43 +92,43 @@ module _ (u : LogicalUnit) (h : ℕ) (power : Bool) (count : ℕ) (cdb out : Lis
         given = (and_parts (supplied (order_by k cdb out)) (leb (returned (order_by k cdb out)) room) rest.1.1.1.1.1.1.1.1.1.0).0;
       })
 
-  attention_refused : (a : Attention) → Refused power (answer.UnitAttention a)
-  attention_refused PowerOnOrReset = ordinary power (answer.UnitAttention PowerOnOrReset) refl refl
-  attention_refused MediumChanged = ordinary power (answer.UnitAttention MediumChanged) refl refl
-  attention_refused ParametersChanged = ordinary power (answer.UnitAttention ParametersChanged) refl refl
+  attention_refused : (a : Attention) → Refused power (Err (error.UnitAttention a))
+  attention_refused PowerOnOrReset = ordinary power (Err (error.UnitAttention PowerOnOrReset)) refl refl
+  attention_refused MediumChanged = ordinary power (Err (error.UnitAttention MediumChanged)) refl refl
+  attention_refused ParametersChanged = ordinary power (Err (error.UnitAttention ParametersChanged)) refl refl
 
   refusals : Refusals power (ladder u h power count cdb out room)
   refusals = (
-    λ _. ordinary power answer.NoSuchHost refl refl,
+    λ _. ordinary power (Err error.NoSuchHost) refl refl,
     (
       λ off. record { not_good = λ e. omega arith; not_lost = λ _. off },
       (
-        λ _. ordinary power answer.InvalidOpcode refl refl,
+        λ _. ordinary power (Err error.InvalidOpcode) refl refl,
         (
-          λ _. ordinary power answer.ShortCdb refl refl,
+          λ _. ordinary power (Err error.ShortCdb) refl refl,
           (
-            λ _. ordinary power answer.ControlSet refl refl,
+            λ _. ordinary power (Err error.ControlSet) refl refl,
             (
               λ _. attention_refused (told (pending u h)),
               (
-                λ _. ordinary power answer.ReservationConflict refl refl,
+                λ _. ordinary power (Err error.ReservationConflict) refl refl,
                 (
-                  λ _. ordinary power answer.InvalidField refl refl,
+                  λ _. ordinary power (Err error.InvalidField) refl refl,
                   (
-                    λ _. ordinary power answer.MediumNotPresent refl refl,
+                    λ _. ordinary power (Err error.MediumNotPresent) refl refl,
                     (
-                      λ _. ordinary power answer.NotReady refl refl,
+                      λ _. ordinary power (Err error.NotReady) refl refl,
                       (
-                        λ _. ordinary power answer.AddressOutOfRange refl refl,
+                        λ _. ordinary power (Err error.AddressOutOfRange) refl refl,
                         (
-                          λ _. ordinary power answer.WriteProtected refl refl,
+                          λ _. ordinary power (Err error.WriteProtected) refl refl,
                           (
-                            λ _. ordinary power answer.RemovalPrevented refl refl,
+                            λ _. ordinary power (Err error.RemovalPrevented) refl refl,
                             (
-                              λ _. ordinary power answer.ListLengthError refl refl,
+                              λ _. ordinary power (Err error.ListLengthError) refl refl,
                               (
-                                λ _. ordinary power answer.DataPhaseError refl refl,
-                                (λ _. ordinary power answer.InvalidParameter refl refl, tt),
+                                λ _. ordinary power (Err error.DataPhaseError) refl refl,
+                                (λ _. ordinary power (Err error.InvalidParameter) refl refl, tt),
                               ),
                             ),
                           ),
@@ -146,7 +146,7 @@ module _ (u : LogicalUnit) (h : ℕ) (power : Bool) (count : ℕ) (cdb out : Lis
   )
 
   -- the first no is a refusal
-  pub judged_no : (a : Answer) → judged u h power count cdb out room ≡ Err a → Refused power a
+  pub judged_no : (a : CommandError) → judged u h power count cdb out room ≡ Err a → Refused power (Err a)
   judged_no a e =
       refuses power (ladder u h power count cdb out room) refusals a
       (stopped (first_no (ladder u h power count cdb out room)) (order_by (opcode_of cdb) cdb out) a e)

@@ -1,2 +1,3 @@
+pub mod Hosts
 pub mod ModePage
 pub mod State

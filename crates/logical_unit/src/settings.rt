@@ -19,54 +19,36 @@ const PAGE_LENGTH: u8 = 11;
 fn flag(on: bool, weight: u8) -> u8
     ensures { result ≡ (if on then weight else 0) }
 {
-    if on { weight } else { 0 }
+    u8::from(on) * weight
 }
 
-impl Settings {
-    pub fn defaults() -> Settings
-        ensures { result ≡ default_settings }
-    {
+impl Default for Settings {
+    ghost is_default = { λ settings. settings ≡ default_settings };
+
+    fn default() -> Settings {
         Settings {
             wcd: false,
             performance: 0x80,
             writed: false,
         }
     }
+}
 
+impl Settings {
     // The settings in a parameter list of MODE SELECT; none if it is not 17 bytes long.
     pub fn from_list(list: &[u8]) -> Option<Settings>
         ensures { result ≡ selected list.now }
     {
-        let [
-            _,
-            _,
-            _,
-            _,
-            _,
-            _,
-            cache,
-            _,
-            _,
-            _,
-            _,
-            _,
-            _,
-            _,
-            performance,
-            write,
-            _,
-        ] = list
-        else {
-            return None;
-        };
+        let list: &[u8; 17] = list.try_into().ok()?;
         Some(Settings {
-            wcd: *cache & 1 != 0,
-            performance: *performance,
-            writed: *write & 4 != 0,
+            wcd: list[6] & 1 != 0,
+            performance: list[14],
+            writed: list[15] & 4 != 0,
         })
     }
 
     // What MODE SENSE returns for a medium of `count` blocks: a header of four bytes, and the page.
+    #[tactic(auto, unfolding(crate::specs::ModePage::mode_data))]
     pub fn mode_data(self, count: u32) -> [u8; 17]
         ensures { result ≡ mode_data count self }
     {

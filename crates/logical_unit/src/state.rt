@@ -1,11 +1,13 @@
 // The state: medium, power condition, reservation, removal bars, unit attentions, settings.
-ghost use Rattle.std.specs.Prelude.{◌≡◌, ◌<◌};
-ghost use Rattle.logical_unit.specs.State.{new_unit, higher, raised_all, raised_others, cleared, barred, reserved, released, started, settings_changed, shown_settings, unit_reset};
+ghost use Rattle.std.specs.Prelude.{◌≡◌};
+ghost use Rattle.commands.specs.Codes.{power_code, control_code};
+ghost use Rattle.logical_unit.specs.Hosts.{host_number};
+ghost use Rattle.logical_unit.specs.State.{new_unit, higher, pending, raised_all, raised_others, cleared, barred, reserved, released, started, settings_changed, shown_settings, unit_reset};
 
+use crate::host::Host;
 use crate::settings::Settings;
+use commands::{PageControl, PowerCondition};
 use sense::Attention;
-
-pub const HOSTS: u32 = 4;
 
 #[derive(Clone, Copy, PartialEq, Eq, Debug)]
 pub enum Condition {
@@ -16,11 +18,13 @@ pub enum Condition {
     Stopped,
 }
 
-#[derive(Clone, Copy)]
+// What each host has is kept by kind, and not by host: every rule speaks of all bars or of all attentions, and RESET
+// alone of both.
+#[derive(Clone, Copy, PartialEq, Eq, Debug)]
 pub struct LogicalUnit {
     pub loaded: bool,
     pub condition: Condition,
-    // the host that holds the reservation
+    // the number of the host that holds the reservation; RESERVE asks for no host that is known
     pub holder: Option<u32>,
     // for each host: it prevents the removal of the medium
     pub bars: [bool; 4],
@@ -33,11 +37,7 @@ pub struct LogicalUnit {
 fn higher(pending: Option<Attention>, new: Attention) -> Attention
     ensures { result ≡ higher pending new }
 {
-    match (pending, new) {
-        (Some(Attention::PowerOnOrReset), _) => Attention::PowerOnOrReset,
-        (Some(Attention::MediumChanged), Attention::ParametersChanged) => Attention::MediumChanged,
-        (_, new) => new,
-    }
+    pending.map_or(new, |pending| pending.min(new))
 }
 
 impl LogicalUnit {
@@ -50,45 +50,45 @@ impl LogicalUnit {
             holder: None,
             bars: [false; 4],
             attentions: [Some(Attention::PowerOnOrReset); 4],
-            settings: Settings::defaults(),
+            settings: Settings::default(),
         }
     }
 
-    // The host was told its attention.
+    // The attention that the host has still to be told.
+    pub fn attention(&self, host: Host) -> Option<Attention>
+        ensures { result ≡ pending self.now (host_number host) }
+    {
+        self.attentions[host.index()]
+    }
+
+    // The host was told its attention; a host that the unit doesn't know has none.
     pub fn clear_attention(&mut self, host: u32)
-        requires { host < 4 }
         ensures { self.new ≡ cleared host self.old }
     {
-        self.attentions[host as usize] = None;
+        if let Some(host) = Host::new(host) {
+            self.attentions[host.index()] = None;
+        }
     }
 
     // PREVENT ALLOW: the host's removal bar.
-    pub fn set_bar(&mut self, host: u32, bar: bool)
-        requires { host < 4 }
-        ensures { self.new ≡ barred host bar self.old }
+    pub fn set_bar(&mut self, host: Host, bar: bool)
+        ensures { self.new ≡ barred (host_number host) bar self.old }
     {
-        self.bars[host as usize] = bar;
+        self.bars[host.index()] = bar;
     }
 
     fn raise_all(&mut self, new: Attention)
         ensures { self.new ≡ raised_all new self.old }
     {
-        let [a, b, c, d] = self.attentions;
-        self.attentions = [
-            Some(higher(a, new)),
-            Some(higher(b, new)),
-            Some(higher(c, new)),
-            Some(higher(d, new)),
-        ];
+        self.attentions = self.attentions.map(|pending| Some(higher(pending, new)));
     }
 
-    fn raise_others(&mut self, host: u32, new: Attention)
-        requires { host < 4 }
-        ensures { self.new ≡ raised_others host new self.old }
+    fn raise_others(&mut self, host: Host, new: Attention)
+        ensures { self.new ≡ raised_others (host_number host) new self.old }
     {
-        let own = self.attentions[host as usize];
+        let own = self.attention(host);
         self.raise_all(new);
-        self.attentions[host as usize] = own;
+        self.attentions[host.index()] = own;
     }
 
     // RESERVE: the host becomes the holder.
@@ -118,20 +118,18 @@ impl LogicalUnit {
     }
 
     // MODE SENSE: the default settings, or the current ones.
-    pub fn shown_settings(&self, control: u8) -> Settings
-        ensures { result ≡ shown_settings control self.now }
+    pub fn shown_settings(&self, control: PageControl) -> Settings
+        ensures { result ≡ shown_settings (control_code control) self.now }
     {
-        if control == 2 {
-            Settings::defaults()
-        } else {
-            self.settings
+        match control {
+            PageControl::Defaults => Settings::default(),
+            _ => self.settings,
         }
     }
 
     // MODE SELECT: if a setting changed, the other hosts learn of it.
-    pub fn change_settings(&mut self, host: u32, settings: Settings)
-        requires { host < 4 }
-        ensures { self.new ≡ settings_changed host settings self.old }
+    pub fn change_settings(&mut self, host: Host, settings: Settings)
+        ensures { self.new ≡ settings_changed (host_number host) settings self.old }
     {
         if settings != self.settings {
             self.raise_others(host, Attention::ParametersChanged);
@@ -140,10 +138,10 @@ impl LogicalUnit {
     }
 
     // START STOP UNIT: the present state and the command together give the next.
-    pub fn start_stop(&mut self, condition: u8, start: bool, load_eject: bool)
-        ensures { self.new ≡ started condition start load_eject self.old }
+    pub fn start_stop(&mut self, condition: PowerCondition, start: bool, load_eject: bool)
+        ensures { self.new ≡ started (power_code condition) start load_eject self.old }
     {
-        let was = self.loaded;
+        let was_loaded = self.loaded;
         (self.loaded, self.condition) = match (
             self.loaded,
             self.condition,
@@ -151,17 +149,20 @@ impl LogicalUnit {
             start,
             load_eject,
         ) {
-            (loaded, _, 1 | 7, _, _) => (loaded, Condition::Active),
-            (loaded, _, 2, _, _) => (loaded, Condition::Idle),
-            (loaded, _, 3, _, _) => (loaded, Condition::Standby),
-            (loaded, _, 5, _, _) => (loaded, Condition::Sleep),
-            (_, _, 0, false, true) => (false, Condition::Stopped),
-            (loaded, _, 0, false, false) => (loaded, Condition::Stopped),
-            (_, _, 0, true, true) => (true, Condition::Active),
-            (loaded, _, 0, true, false) => (loaded, Condition::Active),
-            (loaded, condition, _, _, _) => (loaded, condition),
+            (loaded, _, PowerCondition::Active | PowerCondition::DeviceControl, _, _) => (
+                loaded,
+                Condition::Active,
+            ),
+            (loaded, _, PowerCondition::Idle, _, _) => (loaded, Condition::Idle),
+            (loaded, _, PowerCondition::Standby, _, _) => (loaded, Condition::Standby),
+            (loaded, _, PowerCondition::Sleep, _, _) => (loaded, Condition::Sleep),
+            (_, _, PowerCondition::NoChange, false, true) => (false, Condition::Stopped),
+            (loaded, _, PowerCondition::NoChange, false, false) => (loaded, Condition::Stopped),
+            (_, _, PowerCondition::NoChange, true, true) => (true, Condition::Active),
+            (loaded, _, PowerCondition::NoChange, true, false) => (loaded, Condition::Active),
+            (loaded, condition, PowerCondition::Reserved(_), _, _) => (loaded, condition),
         };
-        if self.loaded && !was {
+        if self.loaded && !was_loaded {
             self.raise_all(Attention::MediumChanged);
         }
     }

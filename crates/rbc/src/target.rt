@@ -1,11 +1,10 @@
-// The module: a store, and the logical unit over it.
-use logical_unit::LogicalUnit;
+// The module: a device that takes commands.
+use actions::Device;
 use store::Store;
 
 mod calls;
 
 #[derive(Drop)]
 pub struct Module<S: Store> {
-    store: S,
-    unit: LogicalUnit,
+    device: Device<S>,
 }

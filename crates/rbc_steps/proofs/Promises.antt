@@ -5,7 +5,8 @@ use Rattle.ladder.specs.Ladder.{judged}
 use Rattle.store.specs.Steps.{Steps, Answer as Outcome, Stepped, stepped}
 use Rattle.store.specs.Meaning.{Meaning}
 use Rattle.store.specs.Keeps.{Keeps}
-use Rattle.sense.specs.declared.Answer.{Answer}
+use Rattle.sense.specs.declared.CommandError.{CommandError}
+use Rattle.sense.specs.Report.{Answer}
 use Rattle.rbc_steps.specs.Module.{ModuleModel, Exchange, exchange, Reply, replied, answer_of, run, replied_to, commanded}
 use Rattle.rbc_steps.specs.Calls.{Command, asked}
 use Rattle.rbc_steps.specs.Writes.{added, added_count}
@@ -40,11 +41,12 @@ module _ {M : Type 0} {steps : Steps M} {meaning : M → Meaning} {good : M → 
 
 -- a command that passes the ladder, and what it then does
 pub ran :
-    {M : Type 0} (steps : Steps M) (h : ℕ) (cdb out : List ℕ) (x : Exchange M) {x' : Exchange M} (power : Bool) (count : ℕ) {o : Order} {r : Outcome ℕ}
-    → power ≡ steps.power x.target.store → count ≡ steps.count x.target.store
-    → Ok o ≡ judged x.target.unit h power count cdb out (length x.data_in) → stepped r x' ≡ run steps h o x
-    → replied (answer_of r) x' ≡ commanded steps h cdb out x
-ran {M} steps h cdb out x power count p n d e =
-    ap (λ (v : Stepped ℕ (Exchange M)). replied (answer_of v.answer) v.after) e
-    ∙ ap (λ (j : Result Order Answer). replied_to steps h j x) d
-    ∙ ap₂ (λ (v : Bool) (k : ℕ). replied_to steps h (judged x.target.unit h v k cdb out (length x.data_in)) x) p n
+    {M : Type 0} (steps : Steps M) (h : ℕ) (cdb out : List ℕ) (x : Exchange M) {x' : Exchange M} (power : Bool) (count : ℕ) {k : ℕ} {o : Order} {r : Outcome ℕ} {a : Answer}
+    → k ≡ h → power ≡ steps.power x.target.store → count ≡ steps.count x.target.store
+    → Ok o ≡ judged x.target.unit h power count cdb out (length x.data_in) → stepped r x' ≡ run steps k o x → a ≡ answer_of r
+    → replied a x' ≡ commanded steps h cdb out x
+ran {M} steps h cdb out x {x'} power count {k} {o} same p n d e i =
+    ap (λ (b : Answer). replied b x') i
+    ∙ ap (λ (v : Stepped ℕ (Exchange M)). replied (answer_of v.answer) v.after) (e ∙ ap (λ (i : ℕ). run steps i o x) same)
+    ∙ ap (λ (j : Result Order CommandError). replied_to steps h j x) d
+    ∙ ap₂ (λ (v : Bool) (n : ℕ). replied_to steps h (judged x.target.unit h v n cdb out (length x.data_in)) x) p n

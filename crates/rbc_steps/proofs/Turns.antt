@@ -8,9 +8,8 @@ use Rattle.store.specs.Sequence.{in_turn}
 use Rattle.store.specs.Meaning.{Meaning}
 use Rattle.store.specs.Keeps.{Keeps}
 use Rattle.store.proofs.Guards.{same_refl}
-use Rattle.sense.specs.declared.Answer.{Answer}
-use Rattle.sense.specs.declared.Answer.TheVariants.{PowerOff}
-use Rattle.sense.specs.declared.Answer.TheVariants as answer
+use Rattle.sense.specs.declared.CommandError.{CommandError}
+use Rattle.sense.specs.declared.CommandError.TheVariants.{PowerOff}
 use Rattle.logical_unit.specs.declared.LogicalUnit.{LogicalUnit}
 use Rattle.logical_unit.specs.declared.Settings.{Settings}
 use Rattle.logical_unit.specs.ModePage.{selected}
@@ -18,7 +17,7 @@ use Rattle.logical_unit.specs.State.{started, settings_changed, flushes_first, u
 use Rattle.commands.specs.Order.{Order, test_unit_ready, inquiry, mode_select, reserve, release, mode_sense, start_stop, prevent_allow, read_capacity, read, write, verify, synchronize_cache, on_write}
 use Rattle.cdb.specs.Decoding.{decoded}
 use Rattle.commands.specs.Requirements.{in_range, supplied}
-use Rattle.sense.specs.Report.{number, Refused}
+use Rattle.sense.specs.Report.{Answer, number, Refused}
 use Rattle.ladder.specs.Ladder.{judged}
 use Rattle.ladder.proofs.Judging.{Passes, judged_no, judged_yes}
 use Rattle.transfer.specs.Transfer.{buffered, put_forced, read_blocks, verify_blocks, write_blocks}
@@ -205,9 +204,9 @@ module _ {M : Type 0} (steps : Steps M) (meaning : M → Meaning) (good : M → 
         (λ b. sym (ap (λ (v : Bool). rows b ++ cond v (adds (Command q) b) []) (not_carried (number a) power f.not_good f.not_lost) ∙ append-nil (rows b)))
         (λ o q' k. f.not_good k.good)
 
-    turn_reset : (v : Bool) → Turns Reset (let r = cond v (replied (answer.Good 0) (joined w.store (unit_reset w.unit))) (replied PowerOff w) in replied r.answer (exchange r.after []))
-    turn_reset true = turn_none w t (seen meaning Reset power (replied (answer.Good 0) (exchange (joined w.store (unit_reset w.unit)) []))) w.store g c refl refl (λ b. sym (append-nil (rows b))) (λ o q k. not_command q k.call)
-    turn_reset false = turn_none w t (seen meaning Reset power (replied PowerOff (exchange w []))) w.store g c refl refl (λ b. none b power) (λ o q k. not_command q k.call)
+    turn_reset : (v : Bool) → Turns Reset (let r = cond v (replied (Ok 0) (joined w.store (unit_reset w.unit))) (replied (Err PowerOff) w) in replied r.answer (exchange r.after []))
+    turn_reset true = turn_none w t (seen meaning Reset power (replied (Ok 0) (exchange (joined w.store (unit_reset w.unit)) []))) w.store g c refl refl (λ b. sym (append-nil (rows b))) (λ o q k. not_command q k.call)
+    turn_reset false = turn_none w t (seen meaning Reset power (replied (Err PowerOff) (exchange w []))) w.store g c refl refl (λ b. none b power) (λ o q k. not_command q k.call)
       where
         none : (b : ℕ) (v : Bool) → rows b ≡ rows b ++ cond (eqb 2 0 || (eqb 2 2 && v)) [] []
         none b true = sym (append-nil (rows b))
@@ -236,7 +235,7 @@ module _ {M : Type 0} (steps : Steps M) (meaning : M → Meaning) (good : M → 
       only_order : {o' : Order} {q' : Request} (r : Outcome ℕ) → Good o' q' (seen_in r) → o ≡ o'
       only_order {o'} {q'} r k =
           let i : q ≡ q' = let e = k.call in cc in
-          let e : ◌≡◌ {A = Result Order Answer} (Ok o) (Ok o') = sym p.decodes ∙ ap (λ (z : Request). decoded z.cdb z.data_out) i ∙ k.order in
+          let e : ◌≡◌ {A = Result Order CommandError} (Ok o) (Ok o') = sym p.decodes ∙ ap (λ (z : Request). decoded z.cdb z.data_out) i ∙ k.order in
           cc
 
       turn_passed : Turns (Command q) (replied (answer_of result.answer) result.after)
@@ -245,8 +244,8 @@ module _ {M : Type 0} (steps : Steps M) (meaning : M → Meaning) (good : M → 
           let e = seen_in result.answer in
           let on = carries result.answer in
           let enters : (b : ℕ) → rows_of rows o b ≡ entered rows e b =
-          λ b. sym (ap₂ (λ (v : Bool) (j : Result Order Answer). rows b ++ cond v (of_write [] (added_to b) j) []) on p.decodes) in
-          let pays : puts_of o ≡ cost e = sym (ap₂ (λ (v : Bool) (j : Result Order Answer). cond v (of_write 0 (λ a n bytes. n) j) 0) on p.decodes) in
+          λ b. sym (ap₂ (λ (v : Bool) (j : Result Order CommandError). rows b ++ cond v (of_write [] (added_to b) j) []) on p.decodes) in
+          let pays : puts_of o ≡ cost e = sym (ap₂ (λ (v : Bool) (j : Result Order CommandError). cond v (of_write 0 (λ a n bytes. n) j) 0) on p.decodes) in
           let v = carried_along (cost e) enters (le_of_eq pays) d.carried in
           record {
             safe = d.safe;
@@ -270,8 +269,8 @@ module _ {M : Type 0} (steps : Steps M) (meaning : M → Meaning) (good : M → 
     pub turn : (call : Call) → Turn good n rows (meaning w.store) t (event steps meaning w call) (called steps w call).after.target.store
     turn (Command q) = go (judged w.unit q.host power (steps.count w.store) q.cdb q.data_out (length q.data_in)) refl
       where
-        go : (j : Result Order Answer) → judged w.unit q.host power (steps.count w.store) q.cdb q.data_out (length q.data_in) ≡ j
+        go : (j : Result Order CommandError) → judged w.unit q.host power (steps.count w.store) q.cdb q.data_out (length q.data_in) ≡ j
             → Turns (Command q) (replied_to steps q.host j (exchange w q.data_in))
         go (Ok o) e = turn_passed q o (judged_yes w.unit q.host power (steps.count w.store) q.cdb q.data_out (length q.data_in) o e)
-        go (Err a) e = turn_refused q a (judged_no w.unit q.host power (steps.count w.store) q.cdb q.data_out (length q.data_in) a e)
+        go (Err a) e = turn_refused q (Err a) (judged_no w.unit q.host power (steps.count w.store) q.cdb q.data_out (length q.data_in) a e)
     turn Reset = turn_reset power

@@ -2,8 +2,7 @@
 use Rattle.std.specs.Prelude.{◌≡◌, ℕ, Bool, List, [], Ok}
 use Rattle.store.specs.Steps.{Steps}
 use Rattle.store.specs.Meaning.{Meaning}
-use Rattle.sense.specs.declared.Answer.{Answer}
-use Rattle.sense.specs.Report.{number}
+use Rattle.sense.specs.Report.{Answer, number}
 use Rattle.commands.specs.Order.{Order}
 use Rattle.cdb.specs.Decoding.{decoded}
 use Rattle.rbc_steps.specs.Module.{ModuleModel, Exchange, exchange, Reply, replied, commanded, reset}

@@ -4,9 +4,9 @@ use Rattle.std.specs.Simd.{first_chunks}
 use Rattle.store.specs.declared.StoreError.{StoreError}
 use Rattle.store.specs.Bytes.{placed}
 use Rattle.store.specs.Steps.{Steps, Stepped, stepped, next}
-use Rattle.sense.specs.declared.Answer.{Answer}
-use Rattle.sense.specs.declared.Answer.TheVariants.{Good, PowerOff}
-use Rattle.sense.specs.Report.{number}
+use Rattle.sense.specs.declared.CommandError.{CommandError}
+use Rattle.sense.specs.declared.CommandError.TheVariants.{PowerOff}
+use Rattle.sense.specs.Report.{Answer, number}
 use Rattle.commands.specs.Order.{Order, test_unit_ready, inquiry, mode_select, reserve, release, mode_sense, start_stop, prevent_allow, read_capacity, read, write, verify, synchronize_cache}
 use Rattle.logical_unit.specs.declared.LogicalUnit.{LogicalUnit}
 use Rattle.logical_unit.specs.declared.Settings.{Settings}
@@ -104,16 +104,16 @@ replied a x = record { answer = a; after = x }
 
 -- the store answers no but for want of power
 abbrev pub answer_of : Result ℕ StoreError → Answer
-answer_of (Ok n) = Good n
-answer_of (Err e) = PowerOff
+answer_of (Ok n) = Ok n
+answer_of (Err e) = Err PowerOff
 
 -- an attention that is told is cleared
 abbrev pub refused : ℕ → Answer → LogicalUnit → LogicalUnit
 refused h a u = cond (number a == 6) (cleared h u) u
 
-abbrev pub replied_to : {M : Type 0} → Steps M → ℕ → Result Order Answer → Exchange M → Reply (Exchange M)
+abbrev pub replied_to : {M : Type 0} → Steps M → ℕ → Result Order CommandError → Exchange M → Reply (Exchange M)
 replied_to s h (Ok o) x = let r = run s h o x in replied (answer_of r.answer) r.after
-replied_to s h (Err a) x = replied a (exchange (joined x.target.store (refused h a x.target.unit)) x.data_in)
+replied_to s h (Err e) x = replied (Err e) (exchange (joined x.target.store (refused h (Err e) x.target.unit)) x.data_in)
 
 -- COMMAND
 abbrev pub commanded : {M : Type 0} → Steps M → ℕ → List ℕ → List ℕ → Exchange M → Reply (Exchange M)
@@ -122,7 +122,7 @@ commanded s h cdb out x =
 
 -- RESET
 abbrev pub reset : {M : Type 0} → Steps M → ModuleModel M → Reply (ModuleModel M)
-reset s w = cond (s.power w.store) (replied (Good 0) (joined w.store (unit_reset w.unit))) (replied PowerOff w)
+reset s w = cond (s.power w.store) (replied (Ok 0) (joined w.store (unit_reset w.unit))) (replied (Err PowerOff) w)
 
 -- MAKE
 abbrev pub made_over : {M : Type 0} → Steps M → M → ModuleModel M

@@ -3,8 +3,8 @@
 use Rattle.std.specs.Prelude.{ℕ, zero, suc, ◌+◌, ◌-◌, ◌*◌, Bool, cond, ◌&&◌, ◌||◌, List, [], ◌∷◌, ◌++◌, take, drop, Ok, Err, Result, ◌==◌, nat_le, nat_lt}
 use Rattle.store.specs.Steps.{Content}
 use Rattle.store.specs.Meaning.{last_of}
-use Rattle.sense.specs.declared.Answer.{Answer}
-use Rattle.sense.specs.Report.{number}
+use Rattle.sense.specs.declared.CommandError.{CommandError}
+use Rattle.sense.specs.Report.{Answer, number}
 use Rattle.commands.specs.Order.{Order, on_write}
 use Rattle.cdb.specs.Decoding.{decoded}
 use Rattle.rbc_steps.specs.Calls.{Call, Command, Reset, Event}
@@ -18,7 +18,7 @@ abbrev pub piece : List ℕ → ℕ → Content
 piece bytes i = take 512 (drop (512 * i) bytes)
 
 -- what f says of a WRITE by its address, length and data; of every other command `other`
-abbrev pub of_write : {A : Type 0} → A → (ℕ → ℕ → List ℕ → A) → Result Order Answer → A
+abbrev pub of_write : {A : Type 0} → A → (ℕ → ℕ → List ℕ → A) → Result Order CommandError → A
 of_write other f (Ok o) = on_write other f o
 of_write other f (Err a) = other
 

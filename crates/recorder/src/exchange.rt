@@ -1,6 +1,6 @@
 // A command of the scene with its reply.
 use crate::step::Step;
-use sense::Answer;
+use sense::{CommandError, Report};
 use session::Reply;
 use std::alloc::{AllocError, Global};
 use std::fmt;
@@ -26,7 +26,7 @@ impl Exchange {
         let mut exchanges = Vec::new(heap);
         let mut power = true;
         for (step, reply) in steps.into_iter().zip(replies) {
-            let lost = matches!(reply.answer, Answer::PowerOff);
+            let lost = reply.answer == Err(CommandError::PowerOff);
             exchanges.push(Exchange { step, reply, power })?;
             power = power && !lost;
         }
@@ -36,9 +36,8 @@ impl Exchange {
     // A WRITE counts if it was good, or if the power went during it.
     fn carried_out(&self) -> bool {
         match self.reply.answer {
-            Answer::Good(_) => true,
-            Answer::PowerOff => self.power,
-            _ => false,
+            Ok(_) => true,
+            Err(error) => error == CommandError::PowerOff && self.power,
         }
     }
 
@@ -56,7 +55,7 @@ impl fmt::Display for Exchange {
     fn fmt<W: fmt::Write>(&self, f: &mut fmt::Formatter<W>) -> fmt::Result {
         let host = self.step.host.number();
         let name = self.step.name;
-        let report = self.reply.answer.report();
+        let report = Report::from(self.reply.answer);
         write!(f, "host {host}  {name:<24} {report}")?;
         for byte in self.reply.data.iter().take(SHOWN) {
             write!(f, " {byte:02x}")?;

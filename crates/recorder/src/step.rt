@@ -29,10 +29,10 @@ impl Step {
 
     // The content that it writes to the block.
     pub fn written(&self, block: u32) -> Option<&[u8]> {
-        let Ok(Command::Write { address, data, .. }) = decode(&self.cdb, &self.data_out) else {
+        let Ok(Command::Write { extent, data, .. }) = decode(&self.cdb, &self.data_out) else {
             return None;
         };
-        let index = block.checked_sub(address)?;
+        let index = block.checked_sub(extent.address)?;
         data.chunks_exact(BLOCK_BYTES).nth(index as usize)
     }
 }

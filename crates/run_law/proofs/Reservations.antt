@@ -4,9 +4,8 @@ use Rattle.std.proofs.lemmas.List.{append-nil}
 use Rattle.std.proofs.lemmas.Bool.{eqb-true, both_ways}
 use Rattle.store.specs.Steps.{Steps, Stepped, stepped, Answer as Outcome}
 use Rattle.store.specs.Meaning.{Meaning}
-use Rattle.sense.specs.declared.Answer.{Answer}
-use Rattle.sense.specs.declared.Answer.TheVariants.{PowerOff}
-use Rattle.sense.specs.declared.Answer.TheVariants as answer
+use Rattle.sense.specs.declared.CommandError.{CommandError}
+use Rattle.sense.specs.declared.CommandError.TheVariants.{PowerOff}
 use Rattle.sense.specs.declared.Attention.TheVariants.{MediumChanged, ParametersChanged}
 use Rattle.logical_unit.specs.declared.Settings.{Settings}
 use Rattle.logical_unit.specs.declared.LogicalUnit.{LogicalUnit}
@@ -15,7 +14,7 @@ use Rattle.cdb.specs.Decoding.{decoded}
 use Rattle.commands.specs.Requirements.{passes_reservation}
 use Rattle.ladder.specs.Ladder.{held_by_other, judged}
 use Rattle.ladder.proofs.Judging.{Passes, judged_no, judged_yes}
-use Rattle.sense.specs.Report.{number, Refused}
+use Rattle.sense.specs.Report.{Answer, number, Refused}
 use Rattle.logical_unit.specs.ModePage.{selected}
 use Rattle.logical_unit.specs.State.{cleared, raised_all, raised_others, with_holder, held_by, next_loaded, flushes_first, started, same_settings, settings_changed, unit_reset}
 use Rattle.transfer.specs.Transfer.{buffered, read_blocks}
@@ -55,11 +54,11 @@ module _ {M : Type 0} (steps : Steps M) (meaning : M → Meaning) (w : ModuleMod
   -- a command is refused by a question, or it is performed
   by_answer :
       (q : Request) (P : Reply (Exchange M) → Type 0)
-      → ((a : Answer) → Refused power a → P (replied_to steps q.host (Err a) (exchange w q.data_in)))
+      → ((a : CommandError) → Refused power (Err a) → P (replied_to steps q.host (Err a) (exchange w q.data_in)))
       → ((o : Order) → Passing q o → P (performed q o)) → P (called steps w (Command q))
   by_answer q P no-case yes-case = go (judged w.unit q.host power (steps.count w.store) q.cdb q.data_out (length q.data_in)) refl
     where
-      go : (j : Result Order Answer) → judged w.unit q.host power (steps.count w.store) q.cdb q.data_out (length q.data_in) ≡ j → P (replied_to steps q.host j (exchange w q.data_in))
+      go : (j : Result Order CommandError) → judged w.unit q.host power (steps.count w.store) q.cdb q.data_out (length q.data_in) ≡ j → P (replied_to steps q.host j (exchange w q.data_in))
       go (Ok o) e = yes-case o (judged_yes w.unit q.host power (steps.count w.store) q.cdb q.data_out (length q.data_in) o e)
       go (Err a) e = no-case a (judged_no w.unit q.host power (steps.count w.store) q.cdb q.data_out (length q.data_in) a e)
 
@@ -118,20 +117,20 @@ module _ {M : Type 0} (steps : Steps M) (meaning : M → Meaning) (w : ModuleMod
     held_performed q (verify r a k) p f = held_returning 0 q.data_in _ e
     held_performed q synchronize_cache p f = held_returning 0 q.data_in (flushed_if steps true w) e
 
-    held_reset : (v : Bool) → (Frees h (let r = cond v (replied (answer.Good 0) (joined w.store (unit_reset w.unit))) (replied PowerOff w) in Sees Reset (replied r.answer (exchange r.after []))) → ⊥)
-        → Held (cond v (replied (answer.Good 0) (joined w.store (unit_reset w.unit))) (replied PowerOff w)).after
+    held_reset : (v : Bool) → (Frees h (let r = cond v (replied (Ok 0) (joined w.store (unit_reset w.unit))) (replied (Err PowerOff) w) in Sees Reset (replied r.answer (exchange r.after []))) → ⊥)
+        → Held (cond v (replied (Ok 0) (joined w.store (unit_reset w.unit))) (replied (Err PowerOff) w)).after
     held_reset true f = absurd (f (inr (refl, refl)))
     held_reset false f = e
 
     pub stays_held : (c : Call) → (Frees h (event steps meaning w c) → ⊥) → (called steps w c).after.target.unit.holder ≡ Some h
     stays_held (Command q) =
-        by_answer q (λ r. (Frees h (Sees (Command q) r) → ⊥) → Held r.after.target) (λ a _ _. refused_holder q.host a w.unit ∙ e) (held_performed q)
+        by_answer q (λ r. (Frees h (Sees (Command q) r) → ⊥) → Held r.after.target) (λ a _ _. refused_holder q.host (Err a) w.unit ∙ e) (held_performed q)
     stays_held Reset = held_reset power
 
     pub writes_nothing : (rows : Rows) (q : Request) → (q.host ≡ h → ⊥) → (b : ℕ) → entered rows (event steps meaning w (Command q)) b ≡ rows b
     writes_nothing rows q other b =
         by_answer q (λ r. entered rows (Sees (Command q) r) b ≡ rows b)
-        (λ a f. ap (λ (v : Bool). rows b ++ cond v (adds (Command q) b) []) (not_carried (number a) power f.not_good f.not_lost) ∙ append-nil (rows b))
+        (λ a f. ap (λ (v : Bool). rows b ++ cond v (adds (Command q) b) []) (not_carried (number (Err a)) power f.not_good f.not_lost) ∙ append-nil (rows b))
         (λ o p. none (carried_out (performed q o).answer power) (adds (Command q) b) (ap (of_write [] (added_to b)) p.decodes ∙ not_write o p))
       where
         none : (v : Bool) (xs : List (List ℕ)) → xs ≡ [] → rows b ++ cond v xs [] ≡ rows b
@@ -158,7 +157,7 @@ module _ {M : Type 0} (steps : Steps M) (meaning : M → Meaning) (w : ModuleMod
       let i : q' ≡ q = let k = g.call in cc in
       by_answer q' (λ r. number r.answer ≡ 0 → r.after.target.unit.holder ≡ Some q.host) (λ a f z. absurd (f.not_good z))
       (λ o p _.
-      let d : ◌≡◌ {A = Result Order Answer} (Ok o) (Ok reserve) = sym p.decodes ∙ ap (λ (z : Request). decoded z.cdb z.data_out) i ∙ g.order in
+      let d : ◌≡◌ {A = Result Order CommandError} (Ok o) (Ok reserve) = sym p.decodes ∙ ap (λ (z : Request). decoded z.cdb z.data_out) i ∙ g.order in
       let same : o ≡ reserve = cc in
       subst (λ (x : Order). (run steps q'.host x (exchange w q'.data_in)).after.target.unit.holder ≡ Some q.host) (sym same) (ap (λ (z : Request). Some z.host) i))
       g.good

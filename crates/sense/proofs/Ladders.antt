@@ -1,12 +1,12 @@
 -- What a ladder of tests says, passed or not.
 use Rattle.std.proofs.Common.{◌≡◌, ℕ, Bool, true, false, cond, eqb, List, [], ◌∷◌, ◌++◌, Ok, Err, Result, refl, ap, subst, arith}
 use Rattle.std.proofs.lemmas.Bool.{eqb-false}
-use Rattle.sense.specs.declared.Answer.{Answer}
-use Rattle.sense.specs.Report.{number, Refused}
+use Rattle.sense.specs.declared.CommandError.{CommandError}
+use Rattle.sense.specs.Report.{Answer, number, Refused}
 use Rattle.sense.specs.Ladder.{Rung, first_no, unless_refused}
 
 -- the second, unless the first refuses
-abbrev pub after : {A : Type 0} → Result (Unit {0}) Answer → Result A Answer → Result A Answer
+abbrev pub after : {A : Type 0} → Result (Unit {0}) CommandError → Result A CommandError → Result A CommandError
 after (Ok u) r = r
 after (Err e) r = Err e
 
@@ -32,26 +32,26 @@ all_hold (r ∷ rs) e = go (all_hold rs) r.holds refl e
     go more true h f = (h, more f)
     go more false h f = let z : ◌≡◌ {A = ℕ} 0 1 = cc in absurd (omega arith)
 
-pub passed : {A : Type 0} (r : Result (Unit {0}) Answer) (a b : A) → unless_refused r a ≡ Ok b → (r ≡ Ok tt) × (a ≡ b)
+pub passed : {A : Type 0} (r : Result (Unit {0}) CommandError) (a b : A) → unless_refused r a ≡ Ok b → (r ≡ Ok tt) × (a ≡ b)
 passed (Ok u) a b e = (refl, cc)
 passed (Err x) a b e = let z : ◌≡◌ {A = ℕ} 0 1 = cc in absurd (omega arith)
 
-pub stopped : {A : Type 0} (r : Result (Unit {0}) Answer) (a : A) (x : Answer) → unless_refused r a ≡ Err x → r ≡ Err x
+pub stopped : {A : Type 0} (r : Result (Unit {0}) CommandError) (a : A) (x : CommandError) → unless_refused r a ≡ Err x → r ≡ Err x
 stopped (Ok u) a x e = let z : ◌≡◌ {A = ℕ} 0 1 = cc in absurd (omega arith)
 stopped (Err y) a x e = let h : y ≡ x = cc in ap Err h
 
 -- each test that fails is answered by a refusal
 abbrev pub Refusals : Bool → List Rung → Type 0
 Refusals power [] = Unit {0}
-Refusals power (r ∷ rs) = (r.holds ≡ false → Refused power r.refusal) × Refusals power rs
+Refusals power (r ∷ rs) = (r.holds ≡ false → Refused power (Err r.refusal)) × Refusals power rs
 
-pub refuses : (power : Bool) (rs : List Rung) → Refusals power rs → (a : Answer) → first_no rs ≡ Err a → Refused power a
+pub refuses : (power : Bool) (rs : List Rung) → Refusals power rs → (a : CommandError) → first_no rs ≡ Err a → Refused power (Err a)
 refuses power [] h a e = let z : ◌≡◌ {A = ℕ} 0 1 = cc in absurd (omega arith)
 refuses power (r ∷ rs) h a e = go (refuses power rs h.1 a) r.holds refl e
   where
-    go : (first_no rs ≡ Err a → Refused power a) → (v : Bool) → r.holds ≡ v → cond v (first_no rs) (Err r.refusal) ≡ Err a → Refused power a
+    go : (first_no rs ≡ Err a → Refused power (Err a)) → (v : Bool) → r.holds ≡ v → cond v (first_no rs) (Err r.refusal) ≡ Err a → Refused power (Err a)
     go more true i f = more f
-    go more false i f = let same : r.refusal ≡ a = cc in subst (Refused power) same (h.0 i)
+    go more false i f = let same : r.refusal ≡ a = cc in subst (λ (z : CommandError). Refused power (Err z)) same (h.0 i)
 
 -- an answer that is neither good nor a loss of power is a refusal
 pub ordinary : (power : Bool) (a : Answer) → eqb (number a) 0 ≡ false → eqb (number a) 2 ≡ false → Refused power a

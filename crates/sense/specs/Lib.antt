@@ -1,2 +1,3 @@
 pub mod Report
 pub mod Ladder
+pub mod Codes

@@ -2,43 +2,63 @@
 #![tactic(auto)]
 
 ghost use Rattle.std.specs.Prelude.{◌≡◌};
-ghost use Rattle.sense.specs.Report.{attention_codes, report};
+ghost use Rattle.sense.specs.Codes.{status_code, key_code};
+ghost use Rattle.sense.specs.Report.{attention_codes, error_report, report};
+
+use thiserror::Error;
 
 mod display;
 
 // A unit attention, the highest first: a pending one yields only to a higher one.
-#[derive(Clone, Copy, PartialEq, Eq, Debug)]
+#[derive(Clone, Copy, PartialEq, Eq, PartialOrd, Ord, Debug)]
 pub enum Attention {
     PowerOnOrReset,
     MediumChanged,
     ParametersChanged,
 }
 
-// One case for each number, in the order of the numbers.
-#[derive(Clone, Copy, PartialEq, Eq, Debug)]
-pub enum Answer {
-    // with the count of bytes put at the front of data-in
-    Good(u32),
+// Why an answer is not good: one case for each number from 1 on, in the order of the numbers.
+#[derive(Clone, Copy, PartialEq, Eq, Debug, Error)]
+pub enum CommandError {
+    #[error("no such host")]
     NoSuchHost,
     // power was off, or was lost on the way
+    #[error("the power is off")]
     PowerOff,
+    #[error("invalid operation code")]
     InvalidOpcode,
+    #[error("the CDB is too short")]
     ShortCdb,
+    #[error("CONTROL is not zero")]
     ControlSet,
+    #[error("unit attention")]
     UnitAttention(Attention),
+    #[error("reservation conflict")]
     ReservationConflict,
+    #[error("invalid field in the CDB")]
     InvalidField,
+    #[error("no medium")]
     MediumNotPresent,
+    #[error("not ready")]
     NotReady,
+    #[error("address out of range")]
     AddressOutOfRange,
+    #[error("write protected")]
     WriteProtected,
+    #[error("the removal of the medium is prevented")]
     RemovalPrevented,
+    #[error("the parameter list has a wrong length")]
     ListLengthError,
+    #[error("data phase error")]
     DataPhaseError,
+    #[error("invalid field in the parameter list")]
     InvalidParameter,
 }
 
-// An answer as the host sees it.
+// The count of bytes put at the front of data-in, or why not.
+pub type Answer = Result<u32, CommandError>;
+
+// An answer as the host sees it: each field has the number that stands on the wire.
 #[derive(Clone, Copy, PartialEq, Eq, Debug)]
 pub struct Report {
     pub number: u8,
@@ -51,22 +71,33 @@ pub struct Report {
     pub count: u32,
 }
 
-const GOOD: u8 = 0x00;
+// The status of an answer, by its code.
+#[derive(Clone, Copy)]
+enum Status {
+    Good = 0x00,
+    CheckCondition = 0x02,
+    ReservationConflict = 0x18,
+    // of an answer that reaches no logical unit
+    NotReached = 0xff,
+}
 
-const CHECK_CONDITION: u8 = 0x02;
-
-const RESERVATION_CONFLICT: u8 = 0x18;
-
-// the status of an answer that reaches no logical unit
-const NO_STATUS: u8 = 0xff;
+// The sense key of an answer with sense data, by its code.
+#[derive(Clone, Copy)]
+enum SenseKey {
+    NotReady = 0x2,
+    IllegalRequest = 0x5,
+    UnitAttention = 0x6,
+    DataProtect = 0x7,
+    AbortedCommand = 0xb,
+}
 
 impl Report {
-    fn without_sense(number: u8, status: u8, count: u32) -> Report
-        ensures { result ≡ record { number = number; status = status; key = 0; asc = 0; ascq = 0; count = count } }
+    fn without_sense(number: u8, status: Status, count: u32) -> Report
+        ensures { result ≡ record { number = number; status = status_code status; key = 0; asc = 0; ascq = 0; count = count } }
     {
         Report {
             number,
-            status,
+            status: status as u8,
             key: 0,
             asc: 0,
             ascq: 0,
@@ -74,13 +105,13 @@ impl Report {
         }
     }
 
-    fn with_sense(number: u8, key: u8, asc: u8, ascq: u8) -> Report
-        ensures { result ≡ record { number = number; status = 2; key = key; asc = asc; ascq = ascq; count = 0 } }
+    fn with_sense(number: u8, key: SenseKey, asc: u8, ascq: u8) -> Report
+        ensures { result ≡ record { number = number; status = 2; key = key_code key; asc = asc; ascq = ascq; count = 0 } }
     {
         Report {
             number,
-            status: CHECK_CONDITION,
-            key,
+            status: Status::CheckCondition as u8,
+            key: key as u8,
             asc,
             ascq,
             count: 0,
@@ -101,45 +132,72 @@ impl Attention {
     }
 }
 
-impl Answer {
-    // The number, status and sense data of each answer.
+impl CommandError {
+    // The number, status and sense data of each error. The numbers are those that the rules name.
     pub fn report(self) -> Report
-        ensures { result ≡ report self }
+        ensures { result ≡ error_report self }
     {
         match self {
-            Answer::Good(count) => Report::without_sense(0, GOOD, count),
-            Answer::NoSuchHost => Report::without_sense(1, NO_STATUS, 0),
-            Answer::PowerOff => Report::without_sense(2, NO_STATUS, 0),
-            Answer::InvalidOpcode => Report::with_sense(3, 0x5, 0x20, 0x00),
-            Answer::ShortCdb => Report::with_sense(4, 0x5, 0x24, 0x00),
-            Answer::ControlSet => Report::with_sense(5, 0x5, 0x24, 0x00),
-            Answer::UnitAttention(attention) => {
+            CommandError::NoSuchHost => Report::without_sense(1, Status::NotReached, 0),
+            CommandError::PowerOff => Report::without_sense(2, Status::NotReached, 0),
+            CommandError::InvalidOpcode => Report::with_sense(3, SenseKey::IllegalRequest, 0x20, 0x00),
+            CommandError::ShortCdb => Report::with_sense(4, SenseKey::IllegalRequest, 0x24, 0x00),
+            CommandError::ControlSet => Report::with_sense(5, SenseKey::IllegalRequest, 0x24, 0x00),
+            CommandError::UnitAttention(attention) => {
                 let (asc, ascq) = attention.codes();
-                Report::with_sense(6, 0x6, asc, ascq)
+                Report::with_sense(6, SenseKey::UnitAttention, asc, ascq)
             }
-            Answer::ReservationConflict => Report::without_sense(7, RESERVATION_CONFLICT, 0),
-            Answer::InvalidField => Report::with_sense(8, 0x5, 0x24, 0x00),
-            Answer::MediumNotPresent => Report::with_sense(9, 0x2, 0x3a, 0x00),
-            Answer::NotReady => Report::with_sense(10, 0x2, 0x04, 0x02),
-            Answer::AddressOutOfRange => Report::with_sense(11, 0x5, 0x21, 0x00),
-            Answer::WriteProtected => Report::with_sense(12, 0x7, 0x27, 0x00),
-            Answer::RemovalPrevented => Report::with_sense(13, 0x5, 0x53, 0x02),
-            Answer::ListLengthError => Report::with_sense(14, 0x5, 0x1a, 0x00),
-            Answer::DataPhaseError => Report::with_sense(15, 0xb, 0x4b, 0x00),
-            Answer::InvalidParameter => Report::with_sense(16, 0x5, 0x26, 0x00),
+            CommandError::ReservationConflict => Report::without_sense(7, Status::ReservationConflict, 0),
+            CommandError::InvalidField => Report::with_sense(8, SenseKey::IllegalRequest, 0x24, 0x00),
+            CommandError::MediumNotPresent => Report::with_sense(9, SenseKey::NotReady, 0x3a, 0x00),
+            CommandError::NotReady => Report::with_sense(10, SenseKey::NotReady, 0x04, 0x02),
+            CommandError::AddressOutOfRange => Report::with_sense(
+                11,
+                SenseKey::IllegalRequest,
+                0x21,
+                0x00,
+            ),
+            CommandError::WriteProtected => Report::with_sense(12, SenseKey::DataProtect, 0x27, 0x00),
+            CommandError::RemovalPrevented => Report::with_sense(
+                13,
+                SenseKey::IllegalRequest,
+                0x53,
+                0x02,
+            ),
+            CommandError::ListLengthError => Report::with_sense(14, SenseKey::IllegalRequest, 0x1a, 0x00),
+            CommandError::DataPhaseError => Report::with_sense(15, SenseKey::AbortedCommand, 0x4b, 0x00),
+            CommandError::InvalidParameter => Report::with_sense(
+                16,
+                SenseKey::IllegalRequest,
+                0x26,
+                0x00,
+            ),
         }
     }
+}
 
-    pub fn number(self) -> u8
-        ensures { result ≡ (report self).number }
-    {
-        self.report().number
-    }
+// The number, status and sense data of each answer.
+impl From<Answer> for Report {
+    ghost from_gives = { λ a r. r ≡ report a };
 
-    // The count of bytes put at the front of data-in.
-    pub fn count(self) -> u32
-        ensures { result ≡ (report self).count }
-    {
-        self.report().count
+    fn from(answer: Answer) -> Report {
+        match answer {
+            Ok(count) => Report::without_sense(0, Status::Good, count),
+            Err(error) => error.report(),
+        }
     }
+}
+
+// The number of an answer, as the rules of COMMAND name it: 0 good, and one for each error.
+pub fn number(answer: Answer) -> u8
+    ensures { result ≡ (report answer).number }
+{
+    Report::from(answer).number
+}
+
+// The count of bytes put at the front of data-in.
+pub fn count(answer: Answer) -> u32
+    ensures { result ≡ (report answer).count }
+{
+    Report::from(answer).count
 }

@@ -28,14 +28,6 @@ play_next s p c = with_reply p.replies (called s p.target (call_of c))
 abbrev pub played : {M : Type 0} → Steps M → List Given → Progress M → Progress M
 played s cs p = fold (play_next s) p cs
 
-pub played_more :
-    {M : Type 0} (s : Steps M) (calls : List Given) (start : Progress M) (i : ℕ) {xs ys : List Told} {w w' : ModuleModel M} {t : Told} → i < length calls
-    → progress xs w ≡ played s (take i calls) start → Heard t w' (called s w (call_of (get_or calls i given.Reset)))
-    → ys ≡ xs ++ (t ∷ []) → progress ys w' ≡ played s (take (i + 1) calls) start
-played_more s calls start i {xs} h p e q =
-    ap₂ progress (q ∙ ap (λ (t : Told). xs ++ (t ∷ [])) e.reply) e.left
-    ∙ ap (λ σ. play_next s σ (get_or calls i given.Reset)) p ∙ sym (fold_more (play_next s) start calls i given.Reset h)
-
 module _ {M : Type 0} (s : Steps M) (meaning : M → Meaning) where
   played_run :
       (cs : List Given) (xs : List Told) (w : ModuleModel M)

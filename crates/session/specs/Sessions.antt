@@ -2,8 +2,7 @@
 use Rattle.std.specs.Prelude.{◌≡◌, ℕ, List, [], ◌∷◌, map, length, take, vec_items}
 use Rattle.store.specs.Steps.{Steps}
 use Rattle.store.specs.Meaning.{Meaning}
-use Rattle.sense.specs.declared.Answer.{Answer}
-use Rattle.sense.specs.Report.{report}
+use Rattle.sense.specs.Report.{Answer, report}
 use Rattle.rbc_steps.specs.Module.{ModuleModel, Exchange, Reply, made_over}
 use Rattle.rbc_steps.specs.Calls.{Call, Command, Reset, Event, called}
 use Rattle.run_law.specs.Runs.{run, meaning_at}

@@ -8,11 +8,11 @@ ghost use Rattle.session.specs.Sessions.{call_of, Heard, told_by, Played};
 
 use host_data::front;
 use rbc::Module;
-use sense::Answer;
+use sense::{Answer, count};
 use std::alloc::{AllocError, Global};
 use store::Store;
 
-#[derive(Clone, Copy)]
+#[derive(Clone, Copy, PartialEq, Eq, Debug)]
 pub enum Call<'a> {
     Reset,
     // data_in is what the host's buffer holds before the command
@@ -24,7 +24,7 @@ pub enum Call<'a> {
     },
 }
 
-#[derive(Drop)]
+#[derive(PartialEq, Eq, Debug, Drop)]
 pub struct Reply {
     pub answer: Answer,
     // the bytes that were put at the front of data-in
@@ -54,7 +54,7 @@ fn reply_to<S: Store>(
         } => {
             let mut buffer = data_in.to_vec(heap)?;
             let answer = module.command(*host, cdb, data_out, &mut buffer);
-            let data = front(&buffer, answer.count() as usize).to_vec(heap)?;
+            let data = front(&buffer, count(answer) as usize).to_vec(heap)?;
             Ok(Reply { answer, data })
         }
         Call::Reset => {

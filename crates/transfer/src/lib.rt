@@ -5,7 +5,7 @@ ghost use Rattle.std.specs.Prelude.{◌≡◌, ◌+◌, ◌*◌, ◌^◌, ◌<�
 ghost use Rattle.store.specs.Steps.{stepped};
 ghost use Rattle.transfer.specs.Transfer.{put_forced, write_blocks, buffered, fetched, read_blocks, verify_block, verify_blocks};
 
-use host_data::place;
+use host_data::{Extent, place};
 use store::{BLOCK_BYTES, Store, StoreError};
 
 fn put_forced<S: Store>(
@@ -53,18 +53,18 @@ fn fetch<S: Store>(
     Ok(())
 }
 
-// Reads so many blocks from `address` on into the front of data-in.
+// Reads the blocks into the front of data-in.
 pub fn read_blocks<S: Store>(
     store: &mut S,
-    address: u32,
-    count: u16,
+    extent: Extent,
     data_in: &mut [u8],
 ) -> Result<(), StoreError>
-    requires { (address + count < 2 ^ 32) × (512 * count ≤ length data_in.old) }
-    ensures { stepped result (buffered (S.Store.model store.new) data_in.new) ≡ read_blocks S.Store.steps address count (buffered (S.Store.model store.old) data_in.old) }
+    requires { (extent.address + extent.length < 2 ^ 32) × (512 * extent.length ≤ length data_in.old) }
+    ensures { stepped result (buffered (S.Store.model store.new) data_in.new) ≡ read_blocks S.Store.steps extent.address extent.length (buffered (S.Store.model store.old) data_in.old) }
 {
-    for i in 0..count {
-        fetch(store, address, i, data_in)?;
+    // by number: of data-in lent in chunks a proof knows the length alone, so that with a `zip` it didn't close
+    for i in 0..extent.length {
+        fetch(store, extent.address, i, data_in)?;
     }
     Ok(())
 }
@@ -77,13 +77,13 @@ fn verify_block<S: Store>(store: &mut S, block: u32) -> Result<(), StoreError>
     Ok(())
 }
 
-// Forces and reads so many blocks from `address` on.
-pub fn verify_blocks<S: Store>(store: &mut S, address: u32, count: u16) -> Result<(), StoreError>
-    requires { address + count < 2 ^ 32 }
-    ensures { stepped result (S.Store.model store.new) ≡ verify_blocks S.Store.steps address count (S.Store.model store.old) }
+// Forces and reads the blocks.
+pub fn verify_blocks<S: Store>(store: &mut S, extent: Extent) -> Result<(), StoreError>
+    requires { extent.address + extent.length < 2 ^ 32 }
+    ensures { stepped result (S.Store.model store.new) ≡ verify_blocks S.Store.steps extent.address extent.length (S.Store.model store.old) }
 {
-    for i in 0..count {
-        verify_block(store, address + i as u32)?;
+    for block in extent.address..extent.end() {
+        verify_block(store, block)?;
     }
     Ok(())
 }

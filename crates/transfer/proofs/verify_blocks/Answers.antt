@@ -1,10 +1,11 @@
 use Rattle.std.proofs.Common.{arith, rules}
-use Rattle.store.proofs.InTurn.{goes_on, stops}
+use Rattle.transfer.specs.Transfer.{verify_block}
+use Rattle.transfer.proofs.Onward.{goes_onward, stops_there}
 use Rattle.transfer.proofs.verify_blocks.Goals as goal
 
-pub loop-i-preserved : goal.loop-i-preserved
-loop-i-preserved g c = goes_on _ _ c.loop-i.i c.loop-i.invariant c.verify_block.ensures c.in_ok-verify_block.was
+pub loop-block-preserved : goal.loop-block-preserved
+loop-block-preserved g c = goes_onward (verify_block g.S.Store.steps) _ c.args.extent.address c.loop-block.block (omega arith) c.loop-block.invariant c.verify_block.ensures c.in_ok-verify_block.was
 
 pub returns-in_err-verify_block : goal.returns-in_err-verify_block
 returns-in_err-verify_block g c =
-    let h = stops _ _ c.loop-i.i c.args.count (omega arith) c.loop-i.invariant c.verify_block.ensures c.in_err-verify_block.was in search rules
+    let h = stops_there (verify_block g.S.Store.steps) _ c.args.extent.address c.loop-block.block c.args.extent.length (omega arith) (omega arith) c.loop-block.invariant c.verify_block.ensures c.in_err-verify_block.was in search rules

@@ -1,9 +1,6 @@
 use Rattle.std.proofs.Common.{length, arith, rules}
-use Rattle.store.proofs.InTurn.{goes_on, stops}
+use Rattle.store.proofs.InTurn.{stops}
 use Rattle.transfer.proofs.write_blocks.Goals as goal
-
-pub loop-i-preserved : goal.loop-i-preserved
-loop-i-preserved g c = goes_on _ _ c.loop-i.i c.loop-i.invariant c.put_forced.ensures c.in_ok-put_forced.was
 
 pub returns-in_err-put_forced : goal.returns-in_err-put_forced
 returns-in_err-put_forced g c =
