@@ -87,6 +87,7 @@ impl Pages {
         ensures items { self.new.memory.items ≡ disown_first self.old.memory.items block taken (pages self.old.memory.items) }
         ensures len { vec_len self.new.memory ≡ vec_len self.old.memory }
     {
+        // a `for`, since each turn writes: `for_each` would be no plainer
         for page in 0..self.count() {
             self.disown_page(block, taken, page);
         }

@@ -8,8 +8,8 @@ ghost use Rattle.medium.specs.Medium.{Medium, Fit, medium_steps, medium_meaning}
 
 use store::BLOCK_BYTES;
 
-// A layout owns the memory. Each block shows one content, and a store of a block leaves what `medium` says;
-// so one code serves media of every layout.
+// A layout owns the memory, and reads and writes one block of it. The count, the grant and the refusals are
+// those of every medium (`BlockMedium`).
 pub trait Layout {
     // a medium so laid out, as its steps see it
     ghost Model: { Type 0 };
@@ -17,6 +17,7 @@ pub trait Layout {
     // the model of a medium with this layout, block count and grant
     ghost model: { Self → ℕ → ℕ → Model };
 
+    // what each block shows, and what a store of one leaves
     ghost medium: { Medium Model };
 
     // what is true of the model of every such medium
@@ -58,15 +59,19 @@ pub trait Layout {
         ensures puts { (grant : ℕ) → model self.new count (grant - 1) ≡ medium.put (model self.old count grant) block content.now }
         ensures len { vec_len (bytes self.new) ≡ vec_len (bytes self.old) };
 
+    // more blocks need no fewer bytes
     ghost rising: { (m n : ℕ) → m ≤ n → needed m ≤ needed n };
 
+    // the model has the medium's count and grant
     ghost counts: { (l : Self) (count grant : ℕ) → medium.count (model l count grant) ≡ count };
 
     ghost grants: { (l : Self) (count grant : ℕ) → medium.grant (model l count grant) ≡ grant };
 
+    // the model of a medium that fits is good
     ghost valid: { (l : Self) (count grant : ℕ) → Fit count grant (needed count) (vec_len (bytes l)) → good (model l count grant) };
 
     ghost keeps: { Keeps (medium_steps medium) (medium_meaning medium) good };
 
+    // what a put leaves is as `stores` says
     ghost lawful: { (s : Model) (b : ℕ) (x : Content) → good s → length x ≡ 512 → b < medium.count s → stores b x s (medium.put s b x) };
 }
