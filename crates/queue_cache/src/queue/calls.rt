@@ -74,6 +74,7 @@ impl<S: Store> Buffer<S> for QueueBuffer {
     }
 
     // The oldest are written back until none of the block remains.
+    #[tactic(auto, using(crate::proofs::Draining::drain_next, crate::proofs::Draining::drain_done))]
     fn evict(&mut self, below: &mut S, block: u32) -> Result<(), StoreError> {
         while self.latest(block).is_some() {
             self.evict_oldest(below)?;
@@ -82,6 +83,7 @@ impl<S: Store> Buffer<S> for QueueBuffer {
     }
 
     // All are written back, oldest first.
+    #[tactic(auto, using(crate::proofs::Draining::drain_next, crate::proofs::Draining::drain_done))]
     fn evict_all(&mut self, below: &mut S) -> Result<(), StoreError> {
         while !self.entries.is_empty() {
             self.evict_oldest(below)?;
