@@ -82,7 +82,7 @@ impl<S: Store> Buffer<S> for QueueBuffer {
         Ok(())
     }
 
-    // All are written back, oldest first.
+    // All are written back, oldest first. The loop of `evict` again: a closure for its test would need more clauses than it saves lines.
     #[tactic(auto, using(crate::proofs::Draining::drain_next, crate::proofs::Draining::drain_done))]
     fn evict_all(&mut self, below: &mut S) -> Result<(), StoreError> {
         while !self.entries.is_empty() {
