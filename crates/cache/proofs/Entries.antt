@@ -1,10 +1,11 @@
 -- Tests that every entry of a cache passes.
 use Rattle.std.proofs.Common.{◌≡◌, ℕ, zero, suc, ◌+◌, ◌<◌, ◌≤◌, Bool, true, false, cond, eqb, ltb, List, [], ◌∷◌, ◌++◌, length, Some, None, Option, refl, arith}
 use Rattle.std.proofs.lemmas.Bool.{cond_both, and_parts, and_from, eq-eqb, eqb-true, ltb-true}
+use Rattle.std.specs.List.{list_all}
 use Rattle.store.specs.Meaning.{Meaning, Sized, sum_below, held}
 use Rattle.store.proofs.Sums.{sum_plus, sum_same, sum_one, one_at}
 use Rattle.cache.specs.declared.Entry.{Entry}
-use Rattle.cache.specs.Entries.{waiting, over, every, sized, within}
+use Rattle.cache.specs.Entries.{waiting, over, sized, within}
 use Rattle.cache.proofs.Over.{SizedEntry, held_on}
 
 pub none_left : {A : Type 0} (xs : List A) → length xs ≤ 0 → xs ≡ []
@@ -12,20 +13,20 @@ none_left [] h = refl
 none_left (x ∷ xs) h = absurd (omega arith)
 
 module _ (test : Entry → Bool) where
-  pub every_head : (e : Entry) (es : List Entry) → every test (e ∷ es) ≡ true → test e ≡ true
-  every_head e es h = (and_parts (test e) (every test es) h).0
+  pub every_head : (e : Entry) (es : List Entry) → list_all test (e ∷ es) ≡ true → test e ≡ true
+  every_head e es h = (and_parts (test e) (list_all test es) h).0
 
-  pub every_tail : (e : Entry) (es : List Entry) → every test (e ∷ es) ≡ true → every test es ≡ true
-  every_tail e es h = (and_parts (test e) (every test es) h).1
+  pub every_tail : (e : Entry) (es : List Entry) → list_all test (e ∷ es) ≡ true → list_all test es ≡ true
+  every_tail e es h = (and_parts (test e) (list_all test es) h).1
 
-  pub every_cons : (e : Entry) (es : List Entry) → test e ≡ true → every test es ≡ true → every test (e ∷ es) ≡ true
-  every_cons e es t h = and_from (test e) (every test es) t h
+  pub every_cons : (e : Entry) (es : List Entry) → test e ≡ true → list_all test es ≡ true → list_all test (e ∷ es) ≡ true
+  every_cons e es t h = and_from (test e) (list_all test es) t h
 
-  pub every_push : (es : List Entry) (e : Entry) → every test es ≡ true → test e ≡ true → every test (es ++ (e ∷ [])) ≡ true
+  pub every_push : (es : List Entry) (e : Entry) → list_all test es ≡ true → test e ≡ true → list_all test (es ++ (e ∷ [])) ≡ true
   every_push [] e h t = every_cons e [] t refl
   every_push (f ∷ es) e h t = every_cons f (es ++ (e ∷ [])) (every_head f es h) (every_push es e (every_tail f es h) t)
 
--- an empty slot passes every test
+-- an empty slot passes list_all test
 abbrev pub passes : (Entry → Bool) → Option Entry → Bool
 passes test None = true
 passes test (Some e) = test e

@@ -1,5 +1,6 @@
 -- The entries of a cache, and the meaning that they give to the store below.
-use Rattle.std.specs.Prelude.{ℕ, Bool, true, cond, ◌&&◌, ltb, List, [], ◌∷◌, length, ◌==◌, nat_eq, nat_lt}
+use Rattle.std.specs.Prelude.{ℕ, Bool, cond, List, [], ◌∷◌, length, ◌==◌, nat_eq, nat_lt}
+use Rattle.std.specs.List.{list_all}
 use Rattle.store.specs.Steps.{Content}
 use Rattle.store.specs.Meaning.{Meaning, followed}
 use Rattle.cache.specs.declared.Entry.{Entry}
@@ -19,14 +20,10 @@ over m extra =
       line = λ b. cond (nat_lt 0 m.grant) (followed (m.line b) (extra b)) (m.line b);
     }
 
-abbrev pub every : (Entry → Bool) → List Entry → Bool
-every test [] = true
-every test (e ∷ es) = test e && every test es
-
 -- each content has the size of a block
 abbrev pub sized : List Entry → Bool
-sized es = every (λ e. nat_eq (length e.content) 512) es
+sized es = list_all (λ e. nat_eq (length e.content) 512) es
 
 -- each block is below the count
 abbrev pub within : ℕ → List Entry → Bool
-within count es = every (λ e. ltb e.block count) es
+within count es = list_all (λ e. nat_lt e.block count) es

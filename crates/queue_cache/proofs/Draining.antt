@@ -1,5 +1,5 @@
 -- The search for a block's newest content, and the draining of a queue.
-use Rattle.std.proofs.Common.{◌≡◌, ℕ, Bool, true, false, cond, eqb, List, [], ◌∷◌, reverse, find, option_map, length, not, ◌==◌, Some, None, Ok, Err, Option, sym, refl, ap, ◌∙◌, subst, arith}
+use Rattle.std.proofs.Common.{◌≡◌, ℕ, Bool, true, false, cond, eqb, List, [], ◌∷◌, reverse, find, option_map, Some, None, Ok, Err, Option, sym, refl, ap, ◌∙◌, subst}
 use Rattle.std.specs.Iterator.Adapters.{rev_source, rev_steps}
 use Rattle.std.specs.VecDeque.Iter.{deque_iter_rest, deque_iter_steps_back}
 use Rattle.std.specs.Option.{option_or}
@@ -8,10 +8,10 @@ use Rattle.std.proofs.lemmas.Iterator.{YieldsList}
 use Rattle.std.proofs.lemmas.Iterator.Consumers.{YieldsList-from_shown}
 use Rattle.std.proofs.lemmas.List.{reverse-append}
 use Rattle.std.proofs.lemmas.List.Folds.{find-append}
-use Rattle.std.proofs.lemmas.Bool.{cond-true, cond-false, lt-ltb, ne_eqb, true≢false}
+use Rattle.std.proofs.lemmas.Bool.{cond-true, cond-false, true≢false}
 use Rattle.store.specs.Steps.{Content, Steps, Stepped, stepped, next}
 use Rattle.cache.specs.declared.Entry.{Entry}
-use Rattle.queue_cache.specs.Queue.{QueueModel, queued, latest, any, evict_oldest, drain, drained}
+use Rattle.queue_cache.specs.Queue.{QueueModel, queued, latest, evict_oldest, drain, drained}
 
 -- the iterator of a queue, from its back
 pub yields_reversed : {A : Type 0} {s : _} (xs : List A) → deque_iter_rest (rev_source s) ≡ xs → YieldsList (rev_steps (deque_iter_steps_back {X = A})) (λ y. y.now) s (reverse xs)
@@ -47,10 +47,6 @@ latest_find es b = latest_from es b None ∙ same (content_of (find (of_block b)
     same None = refl
     same (Some x) = refl
 
-pub any_filled : (es : List Entry) → any es ≡ not (length es == 0)
-any_filled [] = refl
-any_filled (e ∷ es) = lt-ltb 0 (length (e ∷ es)) (omega arith) ∙ sym (ap not (ne_eqb (length (e ∷ es)) 0 (λ h. omega arith)))
-
 module _ {B : Type 0} (steps : Steps B) (wanted : List Entry → Bool) where
   pub drain_next :
       (es : List Entry) (s : B) (c : Stepped (Unit {0}) (QueueModel B)) → wanted [] ≡ false → wanted es ≡ true → c ≡ evict_oldest steps s es
@@ -64,7 +60,7 @@ module _ {B : Type 0} (steps : Steps B) (wanted : List Entry → Bool) where
       ∙ elim d.answer as (λ a. next (stepped a d.after) go ≡ next (stepped a d.after) (λ _ u. drained steps wanted u)) [ Ok u ↦ refl | Err x ↦ refl ]
       ∙ ap (λ d. next d (λ _ u. drained steps wanted u)) (sym p)
 
-  pub drain_done : (es : List Entry) (s : B) → wanted es ≡ false → drain steps wanted s es ≡ stepped (Ok tt) (queued es s)
+  pub drain_done : (es : List Entry) (s : B) → wanted es ≡ false → drained steps wanted (queued es s) ≡ stepped (Ok tt) (queued es s)
   unfolding drain
   drain_done [] s w = refl
   drain_done (e ∷ es) s w =

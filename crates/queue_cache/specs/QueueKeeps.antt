@@ -1,4 +1,5 @@
 -- The queue cache keeps a store's meaning over every store that does, and its places hold only blocks below the count.
+-- It stands in specs/ since the laws of an impl take their proofs from there.
 use Rattle.std.specs.Prelude.{◌≡◌, ℕ, suc, ◌<◌, ◌≤◌, Bool, true, false, cond, ltb, List, [], ◌∷◌, ◌++◌, length, is_some, Some, None, Ok, Option, ◌==◌, nat_lt}
 use Rattle.std.proofs.Math.Path.{refl}
 use Rattle.std.proofs.Common.{ap, arith}

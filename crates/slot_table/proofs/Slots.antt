@@ -2,9 +2,10 @@
 use Rattle.std.proofs.Common.{◌≡◌, ℕ, zero, suc, ◌+◌, ◌<◌, ◌≤◌, Bool, true, false, cond, eqb, ltb, ◌⊎◌, List, [], ◌∷◌, ◌++◌, length, get_or, set, filter, is_some, Some, None, Option, sym, refl, ap, ◌∙◌, subst, inl, inr, ⊎_elim, append-nil, arith, length-append, length-set}
 use native.Mathlib.Numerals.{one-add}
 use Rattle.std.proofs.lemmas.Bool.{cond-true, cond-false, cond_both, eq-eqb, ne_eqb, ltb-true, ltb-false, cases_eq, cases_Bool}
+use Rattle.std.specs.List.{list_all}
 use Rattle.store.specs.Steps.{Content}
 use Rattle.cache.specs.declared.Entry.{Entry}
-use Rattle.cache.specs.Entries.{waiting, every, sized}
+use Rattle.cache.specs.Entries.{waiting, sized}
 use Rattle.slot_table.specs.Slots.{Slots, full, slot_of, empty_slot, place_for, Apart}
 use Rattle.store.proofs.Lines.{thinned_refl, thinned_length}
 use Rattle.cache.proofs.Over.{Leaves, SizedEntry, Joined, Struck, struck_left}
@@ -209,14 +210,14 @@ placeless slots b h = missing slots b (le (cases_Bool (ltb (slot_of slots b) (le
     le (inr f) = ltb-false (slot_of slots b) (length slots) f
 
 module _ (test : Entry → Bool) where
-  pub every_at : (slots : Slots) (i : ℕ) → every test (full slots) ≡ true → passes test (get_or slots i None) ≡ true
+  pub every_at : (slots : Slots) (i : ℕ) → list_all test (full slots) ≡ true → passes test (get_or slots i None) ≡ true
   every_at [] i h = refl
   every_at (None ∷ slots) zero h = refl
   every_at (Some e ∷ slots) zero h = every_head test e (full slots) h
   every_at (None ∷ slots) (suc i) h = every_at slots i h
   every_at (Some e ∷ slots) (suc i) h = every_at slots i (every_tail test e (full slots) h)
 
-  pub every_set : (slots : Slots) (i : ℕ) (slot : Option Entry) → every test (full slots) ≡ true → passes test slot ≡ true → every test (full (set slots i slot)) ≡ true
+  pub every_set : (slots : Slots) (i : ℕ) (slot : Option Entry) → list_all test (full slots) ≡ true → passes test slot ≡ true → list_all test (full (set slots i slot)) ≡ true
   every_set [] i slot h t = refl
   every_set (None ∷ slots) zero None h t = h
   every_set (None ∷ slots) zero (Some e) h t = every_cons test e (full slots) t h

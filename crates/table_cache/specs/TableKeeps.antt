@@ -1,4 +1,5 @@
 -- The table cache keeps a store's meaning over every store that does, and its slots hold only blocks below the count.
+-- It stands in specs/ since the laws of an impl take their proofs from there.
 use Rattle.std.specs.Prelude.{◌≡◌, ℕ, zero, suc, ◌<◌, ◌≤◌, false, ltb, ◌∷◌, length, set, Some, None, Ok, Option, ◌==◌, nat_lt, slice_index_or, slice_set, refl}
 use Rattle.std.proofs.Common.{sym, ◌∙◌, ap, length-set}
 use Rattle.std.proofs.Math.Logic.{⊎_elim}

@@ -74,6 +74,7 @@ impl<S: Store> Buffer<S> for QueueBuffer {
     }
 
     // The oldest are written back until none of the block remains.
+    #[tactic(auto, using(crate::proofs::Draining::drain_next, crate::proofs::Draining::drain_done))]
     fn evict(&mut self, below: &mut S, block: u32) -> Result<(), StoreError> {
         while self.latest(block).is_some() {
             self.evict_oldest(below)?;
@@ -81,7 +82,8 @@ impl<S: Store> Buffer<S> for QueueBuffer {
         Ok(())
     }
 
-    // All are written back, oldest first.
+    // All are written back, oldest first. The loop of `evict` again: a closure for its test would need more clauses than it saves lines.
+    #[tactic(auto, using(crate::proofs::Draining::drain_next, crate::proofs::Draining::drain_done))]
     fn evict_all(&mut self, below: &mut S) -> Result<(), StoreError> {
         while !self.entries.is_empty() {
             self.evict_oldest(below)?;

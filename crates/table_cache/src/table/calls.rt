@@ -65,6 +65,7 @@ impl<S: Store> Buffer<S> for TableBuffer {
     }
 
     // The block's slot, if it has one, is written back and emptied.
+    #[tactic(auto, using(crate::proofs::Evicting::evict_past, store::proofs::Places::below_none))]
     fn evict(&mut self, below: &mut S, block: u32) -> Result<(), StoreError> {
         match self.table.slot_of(block) {
             Some(place) => self.evict_slot(below, place),
@@ -73,6 +74,7 @@ impl<S: Store> Buffer<S> for TableBuffer {
     }
 
     // All slots are written back and emptied, from 0 to 7.
+    #[tactic(auto, using(store::proofs::InTurn::goes_on), unfolding(crate::specs::Table::evict_first))]
     fn evict_all(&mut self, below: &mut S) -> Result<(), StoreError> {
         for i in 0..SLOTS {
             self.evict_slot(below, i)?;
