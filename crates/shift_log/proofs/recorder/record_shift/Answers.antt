@@ -1,6 +1,6 @@
-use Rattle.std.proofs.Common.{◌≡◌, Ok, Err, sym, refl, ap, ◌∙◌, arith}
+use Rattle.std.proofs.Common.{◌≡◌, Ok, Err, sym, ap, ◌∙◌, arith}
 use Rattle.store.specs.Steps.{Stepped, stepped, next}
-use Rattle.store.proofs.InTurn.{goes_on, stops}
+use Rattle.store.proofs.InTurn.{stops}
 use Rattle.shift_log.specs.Recording.{seconds_steps, shift_steps}
 use Rattle.shift_log.proofs.Shifts.{recorded_by}
 use Rattle.shift_log.proofs.Seconds.{all_recorded, recorded_until}
@@ -22,14 +22,6 @@ returns-in-Err g c =
       recorded = λ h p.
           recorded_by steps g.S.Store.meaning g.S.Store.good g.met.S.Store.keeps s (g.met.S.Store.valid c.args.store.now) every h n _ _ e p;
     }
-
-pub loop-second-init : goal.loop-second-init
-unfolding seconds_steps
-loop-second-init g c = refl
-
-pub loop-second-preserved : goal.loop-second-preserved
-unfolding seconds_steps
-loop-second-preserved g c = goes_on _ _ c.loop-second.second c.loop-second.invariant c.record_second.ensures c.in_default.is
 
 pub returns : goal.returns
 returns g c =
