@@ -1,5 +1,5 @@
 -- What a shift leaves on a store that keeps the law.
-use Rattle.std.proofs.Common.{◌≡◌, ℕ, zero, suc, ◌+◌, ◌<◌, ◌≤◌, List, [], ◌∷◌, ◌++◌, length, Ok, Err, refl, ap, ◌∙◌, subst, inl, inr, ⊎_elim, append_assoc, append-nil, arith}
+use Rattle.std.proofs.Common.{◌≡◌, ℕ, zero, suc, ◌+◌, ◌<◌, ◌≤◌, List, [], ◌∷◌, ◌++◌, length, Ok, Err, refl, ap, ◌∙◌, subst, inl, inr, sym, ⊎_elim, append_assoc, append-nil, arith}
 use Rattle.store.specs.declared.StoreError.TheVariants.{PowerOff}
 use Rattle.std.proofs.lemmas.Bool.{cond_both, cases_lt}
 use Rattle.store.specs.Steps.{Content, Answer, Steps, Stepped, stepped, number}
@@ -130,3 +130,10 @@ module _ {M : Type 0} (steps : Steps M) (meaning : M → Meaning) (good : M → 
           one_of = λ z b h. (p.survives z b h).among;
           stores = let h = p.stores in omega arith;
         }
+
+    -- so of the answer and the store of any code that makes these calls
+    pub recorded_by :
+        (n : ℕ) (r : Answer (Unit {0})) (s' : M)
+        → stepped r s' ≡ shift_steps steps n every s → 0 < (meaning s).grant → Outcomes n every r (meaning s) (meaning s')
+    recorded_by n r s' e g =
+        subst (λ (d : Stepped (Unit {0}) M). Outcomes n every d.answer (meaning s) (meaning d.after)) (sym e) (shift_recorded n g)

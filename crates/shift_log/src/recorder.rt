@@ -49,6 +49,7 @@ pub struct Outcome {
 }
 
 // The whole shift, second by second, and a flush.
+#[tactic(auto, using(store::proofs::InTurn::goes_on), unfolding(crate::specs::Recording::seconds_steps))]
 pub fn record_shift<S: Store>(store: &mut S, shift: Shift) -> Outcome
     ensures steps { stepped result.answer (S.Store.model store.new) ≡ shift_steps S.Store.steps shift.seconds shift.brake_every (S.Store.model store.old) }
     ensures seconds { result.seconds ≡ seconds_recorded S.Store.steps shift.seconds shift.brake_every (S.Store.model store.old) }

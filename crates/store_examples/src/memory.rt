@@ -9,6 +9,7 @@ use std::alloc::{AllocError, Global};
 pub fn blocks(heap: Global, bytes: &[u8]) -> Result<Vec<u8>, AllocError>
     ensures { IfOk result (λ memory. memory.items ≡ block_memory bytes.now) }
 {
+    // a loop: as `flat_map` and `collect` the proof didn't close
     let mut memory = Vec::new(heap);
     for byte in bytes {
         memory.extend_from_slice(&filled(*byte))?;
@@ -41,6 +42,7 @@ pub fn free(byte: u8) -> Page
 pub fn pages(heap: Global, pages: &[Page]) -> Result<Vec<u8>, AllocError>
     ensures { IfOk result (λ memory. memory.items ≡ page_memory pages.now) }
 {
+    // a loop, as in `blocks`
     let mut memory = Vec::new(heap);
     for page in pages {
         memory.extend_from_slice(&page.owner.to_be_bytes())?;

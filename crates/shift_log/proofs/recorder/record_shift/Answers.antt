@@ -1,9 +1,8 @@
-use Rattle.std.proofs.Common.{◌≡◌, Ok, Err, sym, refl, ap, ◌∙◌, subst, arith}
+use Rattle.std.proofs.Common.{◌≡◌, Ok, Err, sym, ap, ◌∙◌, arith}
 use Rattle.store.specs.Steps.{Stepped, stepped, next}
-use Rattle.store.proofs.InTurn.{goes_on, stops}
+use Rattle.store.proofs.InTurn.{stops}
 use Rattle.shift_log.specs.Recording.{seconds_steps, shift_steps}
-use Rattle.shift_log.specs.Recorded.{Outcomes}
-use Rattle.shift_log.proofs.Shifts.{shift_recorded}
+use Rattle.shift_log.proofs.Shifts.{recorded_by}
 use Rattle.shift_log.proofs.Seconds.{all_recorded, recorded_until}
 use Rattle.shift_log.proofs.recorder.record_shift.Goals as goal
 
@@ -21,17 +20,8 @@ returns-in-Err g c =
       steps = e;
       seconds = sym (recorded_until steps every s c.loop-second.second n c.loop-second-test.true c.loop-second.invariant c.record_second.ensures c.in-Err.is);
       recorded = λ h p.
-          subst (λ (d : Stepped (Unit {0}) g.S.Store.Model). Outcomes n every d.answer (g.S.Store.meaning s) (g.S.Store.meaning d.after)) (sym e)
-          (shift_recorded steps g.S.Store.meaning g.S.Store.good g.met.S.Store.keeps s (g.met.S.Store.valid c.args.store.now) every h n p);
+          recorded_by steps g.S.Store.meaning g.S.Store.good g.met.S.Store.keeps s (g.met.S.Store.valid c.args.store.now) every h n _ _ e p;
     }
-
-pub loop-second-init : goal.loop-second-init
-unfolding seconds_steps
-loop-second-init g c = refl
-
-pub loop-second-preserved : goal.loop-second-preserved
-unfolding seconds_steps
-loop-second-preserved g c = goes_on _ _ c.loop-second.second c.loop-second.invariant c.record_second.ensures c.in_default.is
 
 pub returns : goal.returns
 returns g c =
@@ -47,6 +37,5 @@ returns g c =
       steps = e;
       seconds = sym (all_recorded steps every s n all);
       recorded = λ h p.
-          subst (λ (d : Stepped (Unit {0}) g.S.Store.Model). Outcomes n every d.answer (g.S.Store.meaning s) (g.S.Store.meaning d.after)) (sym e)
-          (shift_recorded steps g.S.Store.meaning g.S.Store.good g.met.S.Store.keeps s (g.met.S.Store.valid c.args.store.now) every h n p);
+          recorded_by steps g.S.Store.meaning g.S.Store.good g.met.S.Store.keeps s (g.met.S.Store.valid c.args.store.now) every h n _ _ e p;
     }
