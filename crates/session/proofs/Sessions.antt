@@ -1,15 +1,13 @@
 -- A loop that plays a list of calls.
-use Rattle.std.proofs.Common.{◌≡◌, ℕ, ◌+◌, ◌<◌, ◌≤◌, List, [], ◌∷◌, ◌++◌, map, length, get_or, take, fold, sym, refl, ap, ◌∙◌, ap₂}
+use Rattle.std.proofs.Common.{◌≡◌, ℕ, ◌≤◌, List, [], ◌∷◌, ◌++◌, map, length, take, fold, sym, refl, ap, ◌∙◌}
 use Rattle.std.proofs.lemmas.List.{take_all, append-nil, append_assoc}
-use Rattle.std.proofs.lemmas.List.Sums.{fold_more}
 use Rattle.store.specs.Steps.{Steps}
 use Rattle.store.specs.Meaning.{Meaning}
 use Rattle.rbc_steps.specs.Module.{ModuleModel, Exchange, Reply}
 use Rattle.rbc_steps.specs.Calls.{Call, called, event}
 use Rattle.run_law.specs.Runs.{run, meaning_at}
 use Rattle.session.specs.declared.Call.{Call as Given}
-use Rattle.session.specs.declared.Call.TheVariants as given
-use Rattle.session.specs.Sessions.{call_of, Told, told, told_of, Heard, left_by}
+use Rattle.session.specs.Sessions.{call_of, Told, told, told_of, left_by}
 
 -- what was told so far, and the module that the calls left
 pub record Progress (M : Type 0) : Type 0 where

@@ -1,6 +1,6 @@
 use Rattle.std.proofs.Common.{◌≡◌, Err, ap, ◌∙◌, rules}
 use Rattle.std.proofs.lemmas.Result.{err_from_is_err_and}
-use Rattle.ladder.specs.Ladder.{judged, passed}
+use Rattle.ladder.specs.Ladder.{passed}
 use Rattle.ladder.proofs.Judging.{no_command, not_admitted, not_accepted, runs_on}
 use Rattle.ladder.proofs.judge.Goals as goal
 
