@@ -58,7 +58,12 @@ fn admit(unit: &LogicalUnit, host: Host, command: Command<'_>) -> Result<(), Com
 }
 
 // The tests of the command's blocks and data.
-fn accept(unit: &LogicalUnit, count: u32, room: usize, command: Command<'_>) -> Result<(), CommandError>
+fn accept(
+    unit: &LogicalUnit,
+    count: u32,
+    room: usize,
+    command: Command<'_>,
+) -> Result<(), CommandError>
     ensures value { result ≡ first_no (data_rungs unit.now count room (order command.entry)) }
     ensures runs { OnOk result (Runs count room (order command.entry)) }
 {

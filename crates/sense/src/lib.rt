@@ -117,6 +117,12 @@ impl Report {
             count: 0,
         }
     }
+
+    fn illegal_request(number: u8, asc: u8, ascq: u8) -> Report
+        ensures { result ≡ record { number = number; status = 2; key = 5; asc = asc; ascq = ascq; count = 0 } }
+    {
+        Report::with_sense(number, SenseKey::IllegalRequest, asc, ascq)
+    }
 }
 
 impl Attention {
@@ -138,40 +144,25 @@ impl CommandError {
         ensures { result ≡ error_report self }
     {
         match self {
-            CommandError::NoSuchHost => Report::without_sense(1, Status::NotReached, 0),
-            CommandError::PowerOff => Report::without_sense(2, Status::NotReached, 0),
-            CommandError::InvalidOpcode => Report::with_sense(3, SenseKey::IllegalRequest, 0x20, 0x00),
-            CommandError::ShortCdb => Report::with_sense(4, SenseKey::IllegalRequest, 0x24, 0x00),
-            CommandError::ControlSet => Report::with_sense(5, SenseKey::IllegalRequest, 0x24, 0x00),
-            CommandError::UnitAttention(attention) => {
+            Self::NoSuchHost => Report::without_sense(1, Status::NotReached, 0),
+            Self::PowerOff => Report::without_sense(2, Status::NotReached, 0),
+            Self::InvalidOpcode => Report::illegal_request(3, 0x20, 0x00),
+            Self::ShortCdb => Report::illegal_request(4, 0x24, 0x00),
+            Self::ControlSet => Report::illegal_request(5, 0x24, 0x00),
+            Self::UnitAttention(attention) => {
                 let (asc, ascq) = attention.codes();
                 Report::with_sense(6, SenseKey::UnitAttention, asc, ascq)
             }
-            CommandError::ReservationConflict => Report::without_sense(7, Status::ReservationConflict, 0),
-            CommandError::InvalidField => Report::with_sense(8, SenseKey::IllegalRequest, 0x24, 0x00),
-            CommandError::MediumNotPresent => Report::with_sense(9, SenseKey::NotReady, 0x3a, 0x00),
-            CommandError::NotReady => Report::with_sense(10, SenseKey::NotReady, 0x04, 0x02),
-            CommandError::AddressOutOfRange => Report::with_sense(
-                11,
-                SenseKey::IllegalRequest,
-                0x21,
-                0x00,
-            ),
-            CommandError::WriteProtected => Report::with_sense(12, SenseKey::DataProtect, 0x27, 0x00),
-            CommandError::RemovalPrevented => Report::with_sense(
-                13,
-                SenseKey::IllegalRequest,
-                0x53,
-                0x02,
-            ),
-            CommandError::ListLengthError => Report::with_sense(14, SenseKey::IllegalRequest, 0x1a, 0x00),
-            CommandError::DataPhaseError => Report::with_sense(15, SenseKey::AbortedCommand, 0x4b, 0x00),
-            CommandError::InvalidParameter => Report::with_sense(
-                16,
-                SenseKey::IllegalRequest,
-                0x26,
-                0x00,
-            ),
+            Self::ReservationConflict => Report::without_sense(7, Status::ReservationConflict, 0),
+            Self::InvalidField => Report::illegal_request(8, 0x24, 0x00),
+            Self::MediumNotPresent => Report::with_sense(9, SenseKey::NotReady, 0x3a, 0x00),
+            Self::NotReady => Report::with_sense(10, SenseKey::NotReady, 0x04, 0x02),
+            Self::AddressOutOfRange => Report::illegal_request(11, 0x21, 0x00),
+            Self::WriteProtected => Report::with_sense(12, SenseKey::DataProtect, 0x27, 0x00),
+            Self::RemovalPrevented => Report::illegal_request(13, 0x53, 0x02),
+            Self::ListLengthError => Report::illegal_request(14, 0x1a, 0x00),
+            Self::DataPhaseError => Report::with_sense(15, SenseKey::AbortedCommand, 0x4b, 0x00),
+            Self::InvalidParameter => Report::illegal_request(16, 0x26, 0x00),
         }
     }
 }
