@@ -4,7 +4,7 @@ ghost use Rattle.cdb.specs.declared.opcode.Opcode.TheVariants.{Six, Ten};
 ghost use Rattle.cdb.specs.Decoding.{decoded_by, decoded, seen};
 
 use crate::opcode::{Opcode, SixByte, TenByte};
-use commands::Command;
+use commands::{Command, StartStop};
 use host_data::{Extent, front};
 use sense::CommandError;
 
@@ -37,9 +37,11 @@ fn decode_six<'a>(six: SixByte, cdb: &[u8], data_out: &'a [u8]) -> Result<Comman
             allocation: *byte4,
         },
         SixByte::StartStopUnit => Command::StartStopUnit {
-            condition: (*byte4 >> 4).into(),
-            start: *byte4 & 1 != 0,
-            load_eject: *byte4 & 2 != 0,
+            request: StartStop {
+                condition: (*byte4 >> 4).into(),
+                start: *byte4 & 1 != 0,
+                load_eject: *byte4 & 2 != 0,
+            },
         },
         SixByte::PreventAllow => Command::PreventAllow {
             removal: (*byte4 & 3).into(),

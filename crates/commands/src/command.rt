@@ -1,5 +1,5 @@
 // A command with its fields; WRITE and MODE SELECT borrow the host's data.
-use crate::fields::{PageControl, PowerCondition, Removal};
+use crate::fields::{PageControl, Removal, StartStop};
 use host_data::Extent;
 
 #[derive(Clone, Copy, PartialEq, Eq, Debug)]
@@ -23,9 +23,7 @@ pub enum Command<'a> {
         allocation: u8,
     },
     StartStopUnit {
-        condition: PowerCondition,
-        start: bool,
-        load_eject: bool,
+        request: StartStop,
     },
     PreventAllow {
         removal: Removal,

@@ -1,5 +1,5 @@
 // What the fields of commands ask for. A code that the rules give no meaning is Reserved, with its number.
-ghost use Rattle.std.specs.Prelude.{◌≡◌};
+ghost use Rattle.std.specs.Prelude.{◌≡◌, not, ◌&&◌, ◌==◌};
 ghost use Rattle.commands.specs.Codes.{power_code, control_code, prevent_code};
 
 // The power condition of START STOP UNIT.
@@ -72,5 +72,27 @@ impl From<u8> for Removal {
             1 => Removal::Prevented,
             reserved => Removal::Reserved(reserved),
         }
+    }
+}
+
+// What START STOP UNIT asks for. Start and LoEj count where the power condition is not to change.
+#[derive(Clone, Copy, PartialEq, Eq, Debug)]
+pub struct StartStop {
+    pub condition: PowerCondition,
+    pub start: bool,
+    pub load_eject: bool,
+}
+
+impl StartStop {
+    pub fn starts(self) -> bool
+        ensures { result ≡ (power_code self.condition == 0 && self.start) }
+    {
+        self.condition == PowerCondition::NoChange && self.start
+    }
+
+    pub fn unloads(self) -> bool
+        ensures { result ≡ (power_code self.condition == 0 && (not self.start && self.load_eject)) }
+    {
+        self.condition == PowerCondition::NoChange && !self.start && self.load_eject
     }
 }

@@ -6,4 +6,4 @@ mod fields;
 mod requirements;
 
 pub use command::Command;
-pub use fields::{PageControl, PowerCondition, Removal};
+pub use fields::{PageControl, PowerCondition, Removal, StartStop};

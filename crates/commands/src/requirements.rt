@@ -34,11 +34,7 @@ impl Command<'_> {
         match self {
             Command::Inquiry { .. } | Command::Release | Command::ReadCapacity => true,
             Command::PreventAllow { removal } => removal == Removal::Allowed,
-            Command::StartStopUnit {
-                condition,
-                start,
-                ..
-            } => condition == PowerCondition::NoChange && start,
+            Command::StartStopUnit { request } => request.starts(),
             _ => false,
         }
     }
@@ -54,10 +50,9 @@ impl Command<'_> {
                     PageControl::Current | PageControl::Defaults | PageControl::Saved
                 ) && matches!(page, MODE_PAGE | ALL_PAGES)
             }
-            Command::StartStopUnit { condition, .. } => !matches!(
-                condition,
-                PowerCondition::Reserved(_)
-            ),
+            Command::StartStopUnit { request } => {
+                !matches!(request.condition, PowerCondition::Reserved(_))
+            }
             Command::PreventAllow { removal } => !matches!(removal, Removal::Reserved(_)),
             Command::Read { relative, .. }
             | Command::Write { relative, .. }
@@ -103,11 +98,7 @@ impl Command<'_> {
         ensures { result ≡ unloads (order self.entry) }
     {
         match self {
-            Command::StartStopUnit {
-                condition,
-                start,
-                load_eject,
-            } => condition == PowerCondition::NoChange && !start && load_eject,
+            Command::StartStopUnit { request } => request.unloads(),
             _ => false,
         }
     }

@@ -52,12 +52,8 @@ pub fn run<S: Store>(
             device.unit.set_bar(host, removal == Removal::Prevented);
             Ok(0)
         }
-        Command::StartStopUnit {
-            condition,
-            start,
-            load_eject,
-        } => {
-            device.start_stop(condition, start, load_eject)?;
+        Command::StartStopUnit { request } => {
+            device.start_stop(request)?;
             Ok(0)
         }
         Command::ReadCapacity => Ok(report_capacity(data_in, device.store.count())),

@@ -6,7 +6,7 @@ ghost use Rattle.logical_unit.specs.State.{new_unit, higher, pending, raised_all
 
 use crate::host::Host;
 use crate::settings::Settings;
-use commands::{PageControl, PowerCondition};
+use commands::{PageControl, PowerCondition, StartStop};
 use sense::Attention;
 
 #[derive(Clone, Copy, PartialEq, Eq, Debug)]
@@ -138,16 +138,16 @@ impl LogicalUnit {
     }
 
     // START STOP UNIT: the present state and the command together give the next.
-    pub fn start_stop(&mut self, condition: PowerCondition, start: bool, load_eject: bool)
-        ensures { self.new ≡ started (power_code condition) start load_eject self.old }
+    pub fn start_stop(&mut self, request: StartStop)
+        ensures { self.new ≡ started (power_code request.condition) request.start request.load_eject self.old }
     {
         let was_loaded = self.loaded;
         (self.loaded, self.condition) = match (
             self.loaded,
             self.condition,
-            condition,
-            start,
-            load_eject,
+            request.condition,
+            request.start,
+            request.load_eject,
         ) {
             (loaded, _, PowerCondition::Active | PowerCondition::DeviceControl, _, _) => (
                 loaded,
