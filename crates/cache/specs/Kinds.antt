@@ -1,4 +1,4 @@
--- A kind of cache, by what it holds and how that is written back; and what a cache of the kind runs.
+-- The kinds of cache: what one holds, how that is written back, and what the calls of a cache run.
 use Rattle.std.specs.Prelude.{◌≡◌, ℕ, true, List, Some, None, Ok, Option}
 use Rattle.store.specs.Steps.{Content, Steps, Stepped, stepped, next, guarding}
 use Rattle.store.specs.Meaning.{Meaning}
@@ -15,7 +15,7 @@ pub record CacheModel (H B : Type 0) : Type 0 where
 abbrev pub holding : {H B : Type 0} → H → B → CacheModel H B
 holding held s = record { below = s; held = held }
 
--- the same over any store below
+-- a kind of cache, the same over any store below
 pub record CacheKind : Type 1 where
   pub Held : Type 0
   -- nothing held
