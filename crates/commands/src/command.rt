@@ -8,6 +8,7 @@ pub enum Command<'a> {
     Inquiry {
         // asks for vital product data
         vital: bool,
+        // a number, and no enum beside the flag: of both it is asked alone whether they are zero
         page: u8,
         allocation: u8,
     },
@@ -19,6 +20,7 @@ pub enum Command<'a> {
     Release,
     ModeSense {
         control: PageControl,
+        // a number: any page code can be asked for, and all but two are refused alike
         page: u8,
         allocation: u8,
     },

@@ -10,7 +10,7 @@ const OWNER_BYTES: usize = 4;
 
 pub const PAGE_BYTES: usize = OWNER_BYTES + BLOCK_BYTES;
 
-// the owner of a page that belongs to no block
+// the owner that the layout gives a page of no block
 const NOBODY: u32 = u32::MAX;
 
 // A page's number is bounded at each method: a type for it would have to borrow the pages, also while one is written.

@@ -3,7 +3,7 @@ ghost use Rattle.std.specs.Prelude.{◌≡◌, ◌+◌, ◌*◌, ◌^◌, ◌<�
 
 use store::BLOCK_BYTES;
 
-// So many blocks from an address on.
+// So many blocks from an address on. That they end below 2^32 is no invariant: a host may name any, and is refused.
 #[derive(Clone, Copy, PartialEq, Eq, Debug)]
 pub struct Extent {
     pub address: u32,

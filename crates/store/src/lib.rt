@@ -20,7 +20,7 @@ pub enum StoreError {
     NoSuchBlock,
 }
 
-// The number of an answer: 0 good, 1 power off or lost, 2 no such block.
+// The number of an answer, as the rules of a store name it: 0 good, 1 power off or lost, 2 no such block.
 pub fn answer_number<T>(answer: &Result<T, StoreError>) -> u8
     ensures { result ≡ number answer.now }
 {
@@ -42,7 +42,8 @@ pub fn require_power(power: bool) -> Result<(), StoreError>
     }
 }
 
-// The refusals of a call on one block, in their order.
+// The refusals of a call on one block, in their order. Count and power are numbers and not a store, since stores call
+// this from their own methods, each with the parts that it has.
 pub fn admit(block: u32, count: u32, power: bool) -> Result<(), StoreError>
     ensures { result ≡ admitted block count power }
 {

@@ -8,10 +8,11 @@ use std::fmt::Debug;
 use std::test::Fail;
 use store::{Store, StoreError, answer_number};
 
-// The answer that power is off, or was lost in the call.
+// The tests know answers by the numbers that the rules give them.
+// Power is off, or was lost in the call.
 pub const POWER_OFF: u8 = 1;
 
-// The answer that there is no such block.
+// There is no such block.
 pub const NO_SUCH_BLOCK: u8 = 2;
 
 // A test goes on only if what it found is what it wanted.

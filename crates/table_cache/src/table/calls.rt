@@ -76,6 +76,7 @@ impl<S: Store> Buffer<S> for TableBuffer {
     // All slots are written back and emptied, from 0 to 7.
     #[tactic(auto, using(store::proofs::InTurn::goes_on), unfolding(crate::specs::Table::evict_first))]
     fn evict_all(&mut self, below: &mut S) -> Result<(), StoreError> {
+        // by place, as a flush goes: each slot is lent and emptied in its turn, while the store below is called
         for i in 0..SLOTS {
             self.evict_slot(below, i)?;
         }
