@@ -1,4 +1,6 @@
 // The CDBs of the scene.
+
+// The codes that the scene sends. Those of `cdb` are sorted by the length of their CDBs, to take CDBs apart.
 #[derive(Clone, Copy)]
 pub enum Opcode {
     TestUnitReady = 0x00,
