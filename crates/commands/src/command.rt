@@ -13,6 +13,7 @@ pub enum Command<'a> {
         allocation: u8,
     },
     ModeSelect {
+        // as the CDB says: the host may have sent fewer bytes, and is then refused
         length: u8,
         list: &'a [u8],
     },
@@ -40,6 +41,7 @@ pub enum Command<'a> {
         // FUA: force unit access
         force: bool,
         extent: Extent,
+        // what the host sent of it
         data: &'a [u8],
     },
     Verify {
