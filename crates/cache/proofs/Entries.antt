@@ -26,7 +26,7 @@ module _ (test : Entry → Bool) where
   every_push [] e h t = every_cons e [] t refl
   every_push (f ∷ es) e h t = every_cons f (es ++ (e ∷ [])) (every_head f es h) (every_push es e (every_tail f es h) t)
 
--- an empty slot passes list_all test
+-- an empty slot passes every test
 abbrev pub passes : (Entry → Bool) → Option Entry → Bool
 passes test None = true
 passes test (Some e) = test e

@@ -167,6 +167,29 @@ content_sized bytes b =
 shown_at : List ℕ → ℕ → ℕ → Content
 shown_at bytes n i = cond (nat_lt i n) (page_content bytes i) zeros
 
+-- what block b shows, by its first page
+module _ (bytes : List ℕ) (b n i : ℕ) (all : n ≡ pages bytes) (first : i ≡ first_page bytes b n) where
+  shows : shown_at bytes n i ≡ shown bytes b
+  unfolding shown_at
+  shows = ap (shown_at bytes n) first ∙ ap (λ m. shown_at bytes m (first_page bytes b m)) all
+
+  pub shown_page : i < n → page_content bytes i ≡ shown bytes b
+  unfolding shown_at
+  shown_page l = sym (cond-true (nat_lt i n) (page_content bytes i) zeros (lt-ltb i n l)) ∙ shows
+
+  pub shown_none : n ≤ i → zeros ≡ shown bytes b
+  unfolding shown_at
+  shown_none l = sym (cond-false (nat_lt i n) (page_content bytes i) zeros (le-ltb i n l)) ∙ shows
+
+-- the free page, from the number of pages
+pub free_page_is :
+    (s : CardModel) (n k : ℕ) → n ≡ pages s.bytes
+    → first_from (λ k. free s.bytes s.count (round n (s.hand + k))) 0 n ≡ k
+    → round n (s.hand + k) ≡ free_page s
+free_page_is s n k all found =
+    ap (λ k. round n (s.hand + k)) (sym found)
+    ∙ ap (λ n. round n (s.hand + first_from (λ k. free s.bytes s.count (round n (s.hand + k))) 0 n)) all
+
 module _ (s : CardModel) (b : ℕ) (x : Content) (ok : CardGood s) (z : length x ≡ 512) where
   length_put : length (card_put s b x).bytes ≡ length s.bytes
   length_put = length_after s.bytes b (free_page s) x z (free_in s ok.fit.room ok.hand)

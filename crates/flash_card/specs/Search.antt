@@ -58,6 +58,25 @@ module _ (test : ℕ → Bool) where
       q : ℕ
       q = first_from test 0 n
 
+-- the search of the places from i to n, one place on
+module _ (test : ℕ → Bool) (n i : ℕ) where
+  first_step : i < n → first_from test i (n - i) ≡ cond (test i) i (first_from test (i + 1) (n - (i + 1)))
+  unfolding first_from
+  first_step h =
+      let a : n - i ≡ suc (n - (i + 1)) = omega arith in
+      let b : suc i ≡ i + 1 = omega arith in
+      ap (first_from test i) a ∙ ap (λ j. cond (test i) i (first_from test j (n - (i + 1)))) b
+
+  pub first_hit : i < n → test i ≡ true → first_from test i (n - i) ≡ i
+  first_hit h t = first_step h ∙ cond-true (test i) i (first_from test (i + 1) (n - (i + 1))) t
+
+  pub first_miss : i < n → test i ≡ false → first_from test i (n - i) ≡ first_from test (i + 1) (n - (i + 1))
+  first_miss h t = first_step h ∙ cond-false (test i) i (first_from test (i + 1) (n - (i + 1))) t
+
+  pub first_end : n ≤ i → first_from test i (n - i) ≡ i
+  unfolding first_from
+  first_end h = let a : n - i ≡ 0 = omega arith in ap (first_from test i) a
+
 -- more places than values: some value stands at two places
 pub pigeons : (c n : ℕ) (f : ℕ → ℕ) → c < n → ((i : ℕ) → i < n → f i < c) → ((i j : ℕ) → i < j → j < n → f i ≢ f j) → ⊥
 pigeons zero n f h below apart = let z = below 0 (omega arith) in omega arith

@@ -73,6 +73,9 @@ module _ {B : Type 0} (steps : Steps B) (meaning : B → Meaning) (good : B → 
   evicts s [] ok = evicts_none queue_kind meaning good (queued [] s) ok
   evicts s (e ∷ es) ok = evicts_entry queue_kind meaning good steps K (queued (e ∷ es) s) (Some e) es ok (left_behind e es ok.held)
 
+  pub evict_good : (s : B) (es : List Entry) → QueueGood good (queued es s) → QueueGood good (evict_oldest steps s es).after
+  evict_good s es ok = (evicts s es ok).ends_good
+
   popped : (s : B) (es : List Entry) (n : ℕ) → length es ≤ suc n → length (evict_oldest steps s es).after.held ≤ n
   popped s [] n h = omega arith
   popped s (e ∷ es) n h = omega arith
@@ -89,6 +92,9 @@ module _ {B : Type 0} (steps : Steps B) (meaning : B → Meaning) (good : B → 
         cond_both (wanted (e ∷ es)) (next c go) (stepped (Ok tt) q) (Evicts queue_kind meaning good q)
         (λ _. evicts_next queue_kind meaning good q c go p (drains es c.after.below p.ends_good))
         (λ _. evicts_none queue_kind meaning good q ok)
+
+    pub drain_good : (es : List Entry) (s : B) → QueueGood good (queued es s) → QueueGood good (drain steps wanted s es).after
+    drain_good es s ok = (drains es s ok).ends_good
 
     drain_ends :
         (es : List Entry) (s : B) → wanted [] ≡ false → (drain steps wanted s es).answer ≡ Ok tt

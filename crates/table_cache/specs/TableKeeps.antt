@@ -100,6 +100,9 @@ module _ {B : Type 0} (steps : Steps B) (meaning : B → Meaning) (good : B → 
   evicts t i ok =
       evicts_entry table_kind meaning good steps K t (slice_index_or t.held.slots i None) (with_slot t.held i None) ok (left_behind t.held i ok.held)
 
+  pub evict_good : (t : TableModel B) (i : ℕ) → TableGood good t → TableGood good (evict steps t i).after
+  evict_good t i ok = (evicts t i ok).ends_good
+
   evicts_first : (n : ℕ) (t : TableModel B) → TableGood good t → Evicts table_kind meaning good t (evict_first steps n t)
   unfolding evict_first
   evicts_first zero t ok = evicts_none table_kind meaning good t ok
@@ -107,6 +110,9 @@ module _ {B : Type 0} (steps : Steps B) (meaning : B → Meaning) (good : B → 
       let p = evicts_first n t ok in
       let c = evict_first steps n t in
       evicts_next table_kind meaning good t c (λ _ u. evict steps u n) p (evicts c.after n p.ends_good)
+
+  pub evict_first_good : (n : ℕ) (t : TableModel B) → TableGood good t → TableGood good (evict_first steps n t).after
+  evict_first_good n t ok = (evicts_first n t ok).ends_good
 
   evict_first_empties : (n : ℕ) (t : TableModel B) → (evict_first steps n t).answer ≡ Ok tt → Emptied n (evict_first steps n t).after.held
   unfolding evict_first Emptied
