@@ -1,13 +1,15 @@
 -- A loop that plays a list of calls.
-use Rattle.std.proofs.Common.{◌≡◌, ℕ, ◌≤◌, List, [], ◌∷◌, ◌++◌, map, length, take, fold, sym, refl, ap, ◌∙◌}
+use Rattle.std.proofs.Common.{◌≡◌, ℕ, ◌+◌, ◌<◌, ◌≤◌, List, [], ◌∷◌, ◌++◌, map, length, get_or, take, fold, sym, refl, ap, ◌∙◌, ap₂}
 use Rattle.std.proofs.lemmas.List.{take_all, append-nil, append_assoc}
+use Rattle.std.proofs.lemmas.List.Sums.{fold_more}
 use Rattle.store.specs.Steps.{Steps}
 use Rattle.store.specs.Meaning.{Meaning}
 use Rattle.rbc_steps.specs.Module.{ModuleModel, Exchange, Reply}
 use Rattle.rbc_steps.specs.Calls.{Call, called, event}
 use Rattle.run_law.specs.Runs.{run, meaning_at}
 use Rattle.session.specs.declared.Call.{Call as Given}
-use Rattle.session.specs.Sessions.{call_of, Told, told, told_of, left_by}
+use Rattle.session.specs.declared.Call.TheVariants as given
+use Rattle.session.specs.Sessions.{call_of, Told, told, told_of, Heard, left_by}
 
 -- what was told so far, and the module that the calls left
 pub record Progress (M : Type 0) : Type 0 where
@@ -25,6 +27,14 @@ play_next s p c = with_reply p.replies (called s p.target (call_of c))
 
 abbrev pub played : {M : Type 0} → Steps M → List Given → Progress M → Progress M
 played s cs p = fold (play_next s) p cs
+
+pub played_more :
+    {M : Type 0} (s : Steps M) (calls : List Given) (start : Progress M) (i : ℕ) {xs ys : List Told} {w w' : ModuleModel M} {t : Told} → i < length calls
+    → progress xs w ≡ played s (take i calls) start → Heard t w' (called s w (call_of (get_or calls i given.Reset)))
+    → ys ≡ xs ++ (t ∷ []) → progress ys w' ≡ played s (take (i + 1) calls) start
+played_more s calls start i {xs} h p e q =
+    ap₂ progress (q ∙ ap (λ (t : Told). xs ++ (t ∷ [])) e.reply) e.left
+    ∙ ap (λ σ. play_next s σ (get_or calls i given.Reset)) p ∙ sym (fold_more (play_next s) start calls i given.Reset h)
 
 module _ {M : Type 0} (s : Steps M) (meaning : M → Meaning) where
   played_run :
