@@ -7,7 +7,7 @@ ghost use Rattle.cache.specs.Preserves.{Preserves};
 
 use crate::Entry;
 use std::alloc::{AllocError, Global};
-use store::{Store, StoreError};
+use store::{BLOCK_BYTES, Store, StoreError};
 
 // The contents that a write cache holds over a store S. Each call's promise is an equation with the steps of
 // its kind.
@@ -27,7 +27,7 @@ pub trait Buffer<S: Store>: Drop {
         ensures { result ≡ length (kind.entries (model self.now)) };
 
     // The newest content held for the block.
-    fn lookup(&self, block: u32) -> Option<[u8; 512]>
+    fn lookup(&self, block: u32) -> Option<[u8; BLOCK_BYTES]>
         ensures { result ≡ kind.lookup (model self.now) block };
 
     // The entry comes in; another may have to be written back for it.

@@ -6,7 +6,7 @@ ghost use Rattle.std.specs.Prelude.{◌≡◌};
 ghost use Rattle.store.specs.Steps.{stepped};
 ghost use Rattle.cache.specs.WriteBack.{write_back};
 
-use store::{Store, StoreError};
+use store::{BLOCK_BYTES, Store, StoreError};
 
 mod buffer;
 mod write_cache;
@@ -18,7 +18,7 @@ pub use write_cache::Cache;
 #[derive(Clone, Copy)]
 pub struct Entry {
     pub block: u32,
-    pub content: [u8; 512],
+    pub content: [u8; BLOCK_BYTES],
 }
 
 // An entry, if there is one, is put to the store below; only a lost power ends the call.

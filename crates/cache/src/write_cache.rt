@@ -7,7 +7,7 @@ ghost use Rattle.cache.specs.Preserves.{Preserves};
 
 use crate::{Buffer, Entry};
 use std::alloc::{AllocFailed, Global};
-use store::{Store, StoreError, admit, require_power};
+use store::{BLOCK_BYTES, Store, StoreError, require_power};
 
 #[derive(Drop)]
 pub struct Cache<S, B> {
@@ -69,28 +69,28 @@ impl<S: Store, B: Buffer<S>> Store for Cache<S, B> {
         self.below.power()
     }
 
-    fn read_block(&mut self, block: u32) -> Result<[u8; 512], StoreError> {
-        admit(block, self.below.count(), self.below.power())?;
+    fn read_block(&mut self, block: u32) -> Result<[u8; BLOCK_BYTES], StoreError> {
+        self.admit(block)?;
         match self.held.lookup(block) {
             None => self.below.read_block(block),
             Some(content) => Ok(content),
         }
     }
 
-    fn put_block(&mut self, block: u32, content: &[u8; 512]) -> Result<(), StoreError> {
-        admit(block, self.below.count(), self.below.power())?;
+    fn put_block(&mut self, block: u32, content: &[u8; BLOCK_BYTES]) -> Result<(), StoreError> {
+        self.admit(block)?;
         let content = *content;
         self.held.put(&mut self.below, Entry { block, content })
     }
 
     fn force_block(&mut self, block: u32) -> Result<(), StoreError> {
-        admit(block, self.below.count(), self.below.power())?;
+        self.admit(block)?;
         self.held.evict(&mut self.below, block)?;
         self.below.force_block(block)
     }
 
     fn flush(&mut self) -> Result<(), StoreError> {
-        require_power(self.below.power())?;
+        require_power(self.power())?;
         self.held.evict_all(&mut self.below)?;
         self.below.flush()
     }

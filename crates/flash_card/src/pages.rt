@@ -3,8 +3,8 @@ ghost use Rattle.std.specs.Prelude.{◌≡◌, ◌+◌, ◌*◌, ◌<◌, ◌≤
 ghost use Rattle.store.specs.Places.{if_below};
 ghost use Rattle.flash_card.specs.Card.{pages, owner, page_content, first_page, free, round, disown, disown_first, write_page};
 
-use medium::memory::{array_at, overwrite};
-use store::BLOCK_BYTES;
+use medium::memory::array_at;
+use store::{BLOCK_BYTES, overwrite};
 
 const OWNER_BYTES: usize = 4;
 
@@ -14,6 +14,7 @@ pub const PAGE_BYTES: usize = OWNER_BYTES + BLOCK_BYTES;
 const NOBODY: u32 = u32::MAX;
 
 // A page's number is bounded at each method: a type for it would have to borrow the pages, also while one is written.
+// Methods that write say that the length stays: it is the invariant of the card, which owns the pages.
 #[derive(Drop)]
 pub struct Pages {
     pub memory: Vec<u8>,
@@ -87,7 +88,7 @@ impl Pages {
         ensures items { self.new.memory.items ≡ disown_first self.old.memory.items block taken (pages self.old.memory.items) }
         ensures len { vec_len self.new.memory ≡ vec_len self.old.memory }
     {
-        // a `for`, since each turn writes: `for_each` would be no plainer
+        // by number: of a memory lent in chunks a proof knows the length alone, as `transfer` has it
         for page in 0..self.count() {
             self.disown_page(block, taken, page);
         }

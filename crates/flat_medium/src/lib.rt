@@ -8,9 +8,9 @@ ghost use Rattle.flat_medium.specs.Modeled.{flat_model};
 ghost use Rattle.flat_medium.specs.FlatKeeps.{flat_keeps, flat_stores};
 ghost use Rattle.std.proofs.Common.{rules, arith};
 
-use medium::memory::{array_at, overwrite};
+use medium::memory::array_at;
 use medium::{BlockMedium, Layout};
-use store::BLOCK_BYTES;
+use store::{BLOCK_BYTES, overwrite};
 
 pub type FlatMedium = BlockMedium<Flat>;
 

@@ -2,20 +2,14 @@
 ghost use Rattle.std.specs.Prelude.{◌≡◌, ◌+◌, ◌≤◌, min, length, take};
 ghost use Rattle.store.specs.Bytes.{placed};
 
+use store::overwrite;
+
 // The first n bytes, or all if there are fewer.
 pub fn front(bytes: &[u8], n: usize) -> &[u8]
     ensures value { result.now ≡ take n bytes.now }
     ensures len { length result.now ≡ min n (length bytes.now) }
 {
     &bytes[..n.min(bytes.len())]
-}
-
-// Writes the bytes into data-in from place `at` on, and no other.
-pub fn place(data_in: &mut [u8], at: usize, bytes: &[u8])
-    requires { at + length bytes.now ≤ length data_in.old }
-    ensures { data_in.new ≡ placed data_in.old at bytes.now }
-{
-    data_in[at..at + bytes.len()].copy_from_slice(bytes);
 }
 
 // Puts at most `allocation` of the bytes at the front of data-in, and says how many.
@@ -25,6 +19,6 @@ pub fn deliver(data_in: &mut [u8], bytes: &[u8], allocation: u8) -> u32
     ensures front { data_in.new ≡ placed data_in.old 0 (take allocation bytes.now) }
 {
     let part = front(bytes, usize::from(allocation));
-    place(data_in, 0, part);
+    overwrite(data_in, 0, part);
     part.len() as u32
 }

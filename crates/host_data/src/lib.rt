@@ -4,5 +4,5 @@
 mod buffers;
 mod extent;
 
-pub use buffers::{deliver, front, place};
+pub use buffers::{deliver, front};
 pub use extent::Extent;

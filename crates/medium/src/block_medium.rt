@@ -8,7 +8,7 @@ use crate::Unfit;
 use crate::grant::spend;
 use crate::layout::Layout;
 use crate::memory::check;
-use store::{BLOCK_BYTES, Store, StoreError, admit, require_power};
+use store::{BLOCK_BYTES, Store, StoreError, require_power};
 
 // The grant is how many block stores the medium will still make; power is on while there is some left.
 #[derive(Drop)]
@@ -86,7 +86,7 @@ impl<L: Layout> Store for BlockMedium<L> {
     }
 
     fn read_block(&mut self, block: u32) -> Result<[u8; BLOCK_BYTES], StoreError> {
-        admit(block, self.count, self.power())?;
+        self.admit(block)?;
         Ok(self.layout.content(block))
     }
 
@@ -95,13 +95,13 @@ impl<L: Layout> Store for BlockMedium<L> {
         ensures steps { let before = L.model self.old.layout self.old.count self.old.grant in let after = L.model self.new.layout self.new.count self.new.grant in stepped result after ≡ (medium_steps L.medium).put before block content.now }
         ensures stores { let before = L.model self.old.layout self.old.count self.old.grant in let after = L.model self.new.layout self.new.count self.new.grant in block < self.old.count → 0 < self.old.grant → L.stores block content.now before after }
     {
-        admit(block, self.count, self.power())?;
+        self.admit(block)?;
         self.layout.store(self.count, block, content);
         spend(&mut self.grant)
     }
 
     fn force_block(&mut self, block: u32) -> Result<(), StoreError> {
-        admit(block, self.count, self.power())
+        self.admit(block)
     }
 
     fn flush(&mut self) -> Result<(), StoreError> {

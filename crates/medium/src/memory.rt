@@ -1,6 +1,6 @@
 // Parts of a medium's memory.
 ghost use Rattle.std.specs.Prelude.{◌≡◌, ◌+◌, ◌≤◌, length};
-ghost use Rattle.store.specs.Bytes.{part, placed};
+ghost use Rattle.store.specs.Bytes.{part};
 ghost use Rattle.medium.specs.Check.{checked};
 
 use crate::{MAX_BLOCKS, Unfit};
@@ -24,12 +24,4 @@ pub fn array_at<const N: usize>(memory: &[u8], at: usize) -> [u8; N]
     ensures { result ≡ part memory.now at N }
 {
     *memory[at..].first_chunk().unwrap()
-}
-
-// Writes the bytes at place `at`, and no other.
-pub fn overwrite(memory: &mut [u8], at: usize, bytes: &[u8])
-    requires { at + length bytes.now ≤ length memory.old }
-    ensures { memory.new ≡ placed memory.old at bytes.now }
-{
-    memory[at..at + bytes.len()].copy_from_slice(bytes);
 }

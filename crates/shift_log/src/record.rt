@@ -4,6 +4,7 @@ ghost use Rattle.shift_log.specs.Records.{block_of, encoded, decoded};
 
 use crate::kind::Kind;
 use std::fmt;
+use store::BLOCK_BYTES;
 
 // The encoder's records go round this many blocks; the brake's two blocks follow.
 pub const ENCODER_BLOCKS: u32 = 10;
@@ -33,11 +34,11 @@ impl Record {
     }
 
     // The record as the content of a block, which reads back as the record.
-    pub fn to_content(self) -> [u8; 512]
+    pub fn to_content(self) -> [u8; BLOCK_BYTES]
         ensures value { result ≡ encoded self }
         ensures back { decoded result ≡ Some self }
     {
-        let mut content = [0; 512];
+        let mut content = [0; BLOCK_BYTES];
         content[0] = self.kind.code();
         content[1..5].copy_from_slice(&self.second.to_be_bytes());
         content

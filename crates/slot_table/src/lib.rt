@@ -16,6 +16,7 @@ pub const SLOTS: usize = 8;
 
 #[derive(Drop)]
 pub struct SlotTable {
+    // always eight, and yet no array: an element lent out of an array gets no generated proof
     pub slots: Vec<Option<Entry>>,
     pub hand: usize,
 }

@@ -8,6 +8,10 @@ ghost use Rattle.store.specs.Keeps.{Keeps};
 
 use thiserror::Error;
 
+mod parts;
+
+pub use parts::overwrite;
+
 pub const BLOCK_BYTES: usize = 512;
 
 // Why a call on a store was not good.
@@ -42,8 +46,7 @@ pub fn require_power(power: bool) -> Result<(), StoreError>
     }
 }
 
-// The refusals of a call on one block, in their order. Count and power are numbers and not a store, since stores call
-// this from their own methods, each with the parts that it has.
+// The refusals of a call on one block, in their order.
 pub fn admit(block: u32, count: u32, power: bool) -> Result<(), StoreError>
     ensures { result ≡ admitted block count power }
 {
@@ -79,12 +82,19 @@ pub trait Store {
     fn power(&self) -> bool
         ensures { result ≡ steps.power (model self.now) };
 
+    // The refusals of a call on one block, in their order.
+    fn admit(&self, block: u32) -> Result<(), StoreError>
+        ensures { result ≡ admitted block (steps.count (model self.now)) (steps.power (model self.now)) }
+    {
+        admit(block, self.count(), self.power())
+    }
+
     // The block's last content: the latest that was put, or what the medium has.
-    fn read_block(&mut self, block: u32) -> Result<[u8; 512], StoreError>
+    fn read_block(&mut self, block: u32) -> Result<[u8; BLOCK_BYTES], StoreError>
         ensures { stepped result (model self.new) ≡ steps.read (model self.old) block };
 
     // A new content for the block, which may wait above the medium.
-    fn put_block(&mut self, block: u32, content: &[u8; 512]) -> Result<(), StoreError>
+    fn put_block(&mut self, block: u32, content: &[u8; BLOCK_BYTES]) -> Result<(), StoreError>
         ensures { stepped result (model self.new) ≡ steps.put (model self.old) block content.now };
 
     // Brings the block's latest content to the medium.

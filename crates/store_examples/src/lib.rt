@@ -3,13 +3,15 @@
 
 ghost use Rattle.std.specs.Prelude.{◌≡◌, replicate};
 
+use store::BLOCK_BYTES;
+
 pub mod memory;
 #[cfg(test)]
 mod tests;
 
 // A content of one byte throughout.
-pub fn filled(byte: u8) -> [u8; 512]
+pub fn filled(byte: u8) -> [u8; BLOCK_BYTES]
     ensures { result ≡ replicate 512 byte }
 {
-    [byte; 512]
+    [byte; BLOCK_BYTES]
 }

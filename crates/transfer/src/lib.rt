@@ -5,14 +5,14 @@ ghost use Rattle.std.specs.Prelude.{◌≡◌, ◌+◌, ◌*◌, ◌^◌, ◌<�
 ghost use Rattle.store.specs.Steps.{stepped};
 ghost use Rattle.transfer.specs.Transfer.{put_forced, write_blocks, buffered, fetched, read_blocks, verify_block, verify_blocks};
 
-use host_data::{Extent, place};
-use store::{BLOCK_BYTES, Store, StoreError};
+use host_data::Extent;
+use store::{BLOCK_BYTES, Store, StoreError, overwrite};
 
 fn put_forced<S: Store>(
     store: &mut S,
     force: bool,
     block: u32,
-    content: &[u8; 512],
+    content: &[u8; BLOCK_BYTES],
 ) -> Result<(), StoreError>
     ensures { stepped result (S.Store.model store.new) ≡ put_forced S.Store.steps force block content.now (S.Store.model store.old) }
 {
@@ -28,11 +28,12 @@ pub fn write_blocks<S: Store>(
     store: &mut S,
     force: bool,
     address: u32,
-    blocks: &[[u8; 512]],
+    blocks: &[[u8; BLOCK_BYTES]],
 ) -> Result<(), StoreError>
     requires { address + length blocks.now < 2 ^ 32 }
     ensures { stepped result (S.Store.model store.new) ≡ write_blocks S.Store.steps force address blocks.now (S.Store.model store.old) }
 {
+    // `enumerate` and no range of addresses: with a `zip` of both the proof didn't close
     for (i, block) in blocks.iter().enumerate() {
         put_forced(store, force, address + i as u32, block)?;
     }
@@ -49,7 +50,7 @@ fn fetch<S: Store>(
     ensures { stepped result (buffered (S.Store.model store.new) data_in.new) ≡ fetched S.Store.steps address i (buffered (S.Store.model store.old) data_in.old) }
 {
     let content = store.read_block(address + u32::from(i))?;
-    place(data_in, BLOCK_BYTES * usize::from(i), &content);
+    overwrite(data_in, BLOCK_BYTES * usize::from(i), &content);
     Ok(())
 }
 

@@ -10,13 +10,13 @@ use super::QueueBuffer;
 use cache::{Buffer, Entry, write_back};
 use std::alloc::{AllocError, Global};
 use std::collections::VecDeque;
-use store::{Store, StoreError};
+use store::{BLOCK_BYTES, Store, StoreError};
 
 pub const PLACES: usize = 16;
 
 impl QueueBuffer {
     // The newest content held for the block.
-    fn latest(&self, block: u32) -> Option<[u8; 512]>
+    fn latest(&self, block: u32) -> Option<[u8; BLOCK_BYTES]>
         ensures { result ≡ latest None (queue_held self.now) block }
     {
         let newest = self
@@ -60,7 +60,7 @@ impl<S: Store> Buffer<S> for QueueBuffer {
         self.entries.len()
     }
 
-    fn lookup(&self, block: u32) -> Option<[u8; 512]> {
+    fn lookup(&self, block: u32) -> Option<[u8; BLOCK_BYTES]> {
         self.latest(block)
     }
 

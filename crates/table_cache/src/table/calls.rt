@@ -10,7 +10,7 @@ use super::TableBuffer;
 use cache::{Buffer, Entry, write_back};
 use slot_table::{SLOTS, SlotTable};
 use std::alloc::{AllocError, Global};
-use store::{Store, StoreError};
+use store::{BLOCK_BYTES, Store, StoreError};
 
 impl TableBuffer {
     // The slot at place i is written back and emptied.
@@ -47,7 +47,7 @@ impl<S: Store> Buffer<S> for TableBuffer {
         self.table.count_full()
     }
 
-    fn lookup(&self, block: u32) -> Option<[u8; 512]> {
+    fn lookup(&self, block: u32) -> Option<[u8; BLOCK_BYTES]> {
         Some(self.table.lookup(block)?.content)
     }
 
@@ -76,7 +76,7 @@ impl<S: Store> Buffer<S> for TableBuffer {
     // All slots are written back and emptied, from 0 to 7.
     #[tactic(auto, using(store::proofs::InTurn::goes_on), unfolding(crate::specs::Table::evict_first))]
     fn evict_all(&mut self, below: &mut S) -> Result<(), StoreError> {
-        // by place, as a flush goes: each slot is lent and emptied in its turn, while the store below is called
+        // by index: a flush is to be a loop over the slots with their index
         for i in 0..SLOTS {
             self.evict_slot(below, i)?;
         }
