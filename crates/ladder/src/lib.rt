@@ -102,7 +102,7 @@ pub fn judge<'a>(
     ensures value { passed result ≡ judged unit.now host power count cdb.now data_out.now room }
     ensures runs { IfOk result (λ p. (host_number p.0 ≡ host) × Runs count room (order p.1)) }
 {
-    let host = Host::new(host).ok_or(CommandError::NoSuchHost)?;
+    let host = Host::try_from(host)?;
     if !power {
         return Err(CommandError::PowerOff);
     }

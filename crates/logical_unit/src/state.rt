@@ -65,7 +65,7 @@ impl LogicalUnit {
     pub fn clear_attention(&mut self, host: u32)
         ensures { self.new ≡ cleared host self.old }
     {
-        if let Some(host) = Host::new(host) {
+        if let Ok(host) = Host::try_from(host) {
             self.attentions[host.index()] = None;
         }
     }
