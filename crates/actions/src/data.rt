@@ -1,5 +1,5 @@
-// The bytes that INQUIRY, READ CAPACITY and MODE SENSE put into data-in. What differs in the three is the bytes; `deliver`
-// is what they share.
+// The bytes that INQUIRY, READ CAPACITY and MODE SENSE put into data-in. What differs in the three is the bytes;
+// `deliver` is what they share.
 ghost use Rattle.std.specs.Prelude.{◌≡◌, ◌≤◌, min, length, take};
 ghost use Rattle.store.specs.Bytes.{placed};
 ghost use Rattle.logical_unit.specs.ModePage.{mode_data};
