@@ -90,7 +90,8 @@ fn decode_ten<'a>(ten: TenByte, cdb: &[u8], data_out: &'a [u8]) -> Result<Comman
     })
 }
 
-// The command of a CDB, with its data if the host sends some; or why the CDB has none.
+// The command of a CDB, with its data if the host sends some; or why the CDB has none. CDB and data-out come one by
+// one, as COMMAND takes them.
 pub fn decode<'a>(cdb: &[u8], data_out: &'a [u8]) -> Result<Command<'a>, CommandError>
     ensures { seen result ≡ decoded cdb.now data_out.now }
 {

@@ -5,3 +5,4 @@ mod decoding;
 mod opcode;
 
 pub use decoding::decode;
+pub use opcode::{SixByte, TenByte};

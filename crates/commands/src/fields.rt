@@ -1,5 +1,5 @@
-// What the fields of commands ask for. A code that the rules give no meaning is Reserved, with its number.
-ghost use Rattle.std.specs.Prelude.{◌≡◌, not, ◌&&◌, ◌==◌};
+// What the fields of commands ask for. A code that has no name here is Reserved, with its number.
+ghost use Rattle.std.specs.Prelude.{◌≡◌, not, ◌&&◌, ◌||◌, ◌==◌};
 ghost use Rattle.commands.specs.Codes.{power_code, control_code, prevent_code};
 
 // The power condition of START STOP UNIT.
@@ -94,5 +94,12 @@ impl StartStop {
         ensures { result ≡ (power_code self.condition == 0 && (not self.start && self.load_eject)) }
     {
         self.condition == PowerCondition::NoChange && !self.start && self.load_eject
+    }
+    // SLEEP, STOPPED and unloading: what the cache holds goes to the medium first.
+    pub fn flushes_first(self) -> bool
+        ensures { result ≡ (power_code self.condition == 5 || (power_code self.condition == 0 && not self.start)) }
+    {
+        self.condition == PowerCondition::Sleep
+            || (self.condition == PowerCondition::NoChange && !self.start)
     }
 }

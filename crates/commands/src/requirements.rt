@@ -5,19 +5,9 @@ ghost use Rattle.commands.specs.Requirements.{is_inquiry, passes_reservation, va
 
 use crate::command::Command;
 use crate::fields::{PageControl, PowerCondition, Removal};
-
-const INQUIRY_BYTES: usize = 36;
-
-// a header of four bytes, and then the page
-const MODE_BYTES: usize = 17;
-
-const MODE_PAGE: u8 = 0x06;
+use crate::sizes::{CAPACITY_BYTES, INQUIRY_BYTES, MODE_BYTES, MODE_PAGE, MODE_PAGE_LENGTH};
 
 const ALL_PAGES: u8 = 0x3f;
-
-const MODE_PAGE_LENGTH: u8 = 11;
-
-const CAPACITY_BYTES: usize = 8;
 
 impl Command<'_> {
     // It is served while a unit attention is pending.
@@ -151,15 +141,9 @@ impl Command<'_> {
 fn is_mode_list(list: &[u8]) -> bool
     ensures { result ≡ mode_list list.now }
 {
-    if list.is_empty() {
-        return true;
+    match list {
+        [] => true,
+        [_, 0, 0, 0, page, MODE_PAGE_LENGTH, ..] => *page & 0x3f == MODE_PAGE,
+        _ => false,
     }
-    let [_, byte1, byte2, byte3, page, length, ..] = list else {
-        return false;
-    };
-    *byte1 == 0
-        && *byte2 == 0
-        && *byte3 == 0
-        && *page & 0x3f == MODE_PAGE
-        && *length == MODE_PAGE_LENGTH
 }

@@ -12,7 +12,8 @@ pub fn front(bytes: &[u8], n: usize) -> &[u8]
     &bytes[..n.min(bytes.len())]
 }
 
-// Puts at most `allocation` of the bytes at the front of data-in, and says how many.
+// Puts at most `allocation` of the bytes at the front of data-in, and says how many. The count stands beside data-in,
+// since the host is told it.
 pub fn deliver(data_in: &mut [u8], bytes: &[u8], allocation: u8) -> u32
     requires { min allocation (length bytes.now) ≤ length data_in.old }
     ensures count { result ≡ min allocation (length bytes.now) }

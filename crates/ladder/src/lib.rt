@@ -88,8 +88,8 @@ fn accept(
     Ok(())
 }
 
-// The host and the command of the CDB if it passes every test, else the first refusal. The arguments are those of COMMAND
-// and what the store says of itself; they meet in this one call.
+// The host and the command of the CDB if it passes every test, else the first refusal. CDB and data-out come one by
+// one, as COMMAND takes them; what the store says of itself meets them in this one call.
 pub fn judge<'a>(
     unit: &LogicalUnit,
     host: u32,
@@ -102,7 +102,7 @@ pub fn judge<'a>(
     ensures value { passed result ≡ judged unit.now host power count cdb.now data_out.now room }
     ensures runs { IfOk result (λ p. (host_number p.0 ≡ host) × Runs count room (order p.1)) }
 {
-    let host = Host::new(host).ok_or(CommandError::NoSuchHost)?;
+    let host = Host::try_from(host)?;
     if !power {
         return Err(CommandError::PowerOff);
     }

@@ -1,5 +1,8 @@
 // The hosts that the logical unit knows, by their numbers.
-ghost use Rattle.std.specs.Prelude.{◌≡◌, ◌<◌, ◌≤◌, MatchOption};
+ghost use Rattle.std.specs.Prelude.{◌≡◌, ◌<◌, ◌≤◌, MatchResult};
+ghost use Rattle.sense.specs.declared.CommandError.TheVariants.{NoSuchHost};
+
+use sense::CommandError;
 
 pub const HOSTS: u32 = 4;
 
@@ -9,19 +12,24 @@ pub struct Host {
     pub ghost known: { number < 4 },
 }
 
-impl Host {
+impl TryFrom<u32> for Host {
     ghost use Rattle.logical_unit.specs.Hosts.{host_number};
 
-    // The host of a number, if there is one.
-    pub fn new(number: u32) -> Option<Host>
-        ensures { MatchOption result (4 ≤ number) (λ host. host_number host ≡ number) }
-    {
+    type Error = CommandError;
+
+    ghost try_from_gives = { λ number r. MatchResult r (λ host. host_number host ≡ number) (λ e. (4 ≤ number) × (e ≡ NoSuchHost)) };
+
+    fn try_from(number: u32) -> Result<Host, CommandError> {
         if number < HOSTS {
-            Some(Host { number })
+            Ok(Host { number })
         } else {
-            None
+            Err(CommandError::NoSuchHost)
         }
     }
+}
+
+impl Host {
+    ghost use Rattle.logical_unit.specs.Hosts.{host_number};
 
     pub fn number(self) -> u32
         ensures { result ≡ host_number self }

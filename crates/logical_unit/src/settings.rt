@@ -2,6 +2,8 @@
 ghost use Rattle.std.specs.Prelude.{◌≡◌, if◌then◌else◌};
 ghost use Rattle.logical_unit.specs.ModePage.{default_settings, selected, mode_data};
 
+use commands::{MODE_BYTES, MODE_PAGE, MODE_PAGE_LENGTH};
+
 #[derive(Clone, Copy, PartialEq, Eq, Debug)]
 pub struct Settings {
     // write cache disable: each WRITE is forced to the medium
@@ -12,9 +14,8 @@ pub struct Settings {
     pub writed: bool,
 }
 
-const PAGE_CODE: u8 = 0x86;
-
-const PAGE_LENGTH: u8 = 11;
+// PS: the page can be saved
+const PAGE_CODE: u8 = 0x80 | MODE_PAGE;
 
 fn flag(on: bool, weight: u8) -> u8
     ensures { result ≡ (if on then weight else 0) }
@@ -34,12 +35,13 @@ impl Default for Settings {
     }
 }
 
+// No TryFrom and no From: the list is bytes as any other, and the mode data needs the count too.
 impl Settings {
     // The settings in a parameter list of MODE SELECT; none if it is not 17 bytes long.
     pub fn from_list(list: &[u8]) -> Option<Settings>
         ensures { result ≡ selected list.now }
     {
-        let list: &[u8; 17] = list.try_into().ok()?;
+        let list: &[u8; MODE_BYTES] = list.try_into().ok()?;
         Some(Settings {
             wcd: list[6] & 1 != 0,
             performance: list[14],
@@ -49,7 +51,7 @@ impl Settings {
 
     // What MODE SENSE returns for a medium of `count` blocks: a header of four bytes, and the page.
     #[tactic(auto, unfolding(crate::specs::ModePage::mode_data))]
-    pub fn mode_data(self, count: u32) -> [u8; 17]
+    pub fn mode_data(self, count: u32) -> [u8; MODE_BYTES]
         ensures { result ≡ mode_data count self }
     {
         let [a, b, c, d] = count.to_be_bytes();
@@ -59,7 +61,7 @@ impl Settings {
             0,
             0,
             PAGE_CODE,
-            PAGE_LENGTH,
+            MODE_PAGE_LENGTH,
             flag(self.wcd, 1),
             2,
             0,

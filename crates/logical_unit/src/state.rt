@@ -18,13 +18,12 @@ pub enum Condition {
     Stopped,
 }
 
-// What each host has is kept by kind, and not by host: every rule speaks of all bars or of all attentions, and RESET
-// alone of both.
+// Bars and attentions are two lists by host, and no list of hosts: but for RESET no rule speaks of both.
 #[derive(Clone, Copy, PartialEq, Eq, Debug)]
 pub struct LogicalUnit {
     pub loaded: bool,
     pub condition: Condition,
-    // the number of the host that holds the reservation; RESERVE asks for no host that is known
+    // the number of the host that holds the reservation: `reserve` and `release` take any number
     pub holder: Option<u32>,
     // for each host: it prevents the removal of the medium
     pub bars: [bool; 4],
@@ -65,7 +64,7 @@ impl LogicalUnit {
     pub fn clear_attention(&mut self, host: u32)
         ensures { self.new ≡ cleared host self.old }
     {
-        if let Some(host) = Host::new(host) {
+        if let Ok(host) = Host::try_from(host) {
             self.attentions[host.index()] = None;
         }
     }

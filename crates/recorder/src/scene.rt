@@ -1,8 +1,10 @@
 // The scene: a service plug looks at the module, the brake task reserves it and writes, the door task tries to
 // interfere, and the power goes in the middle of a WRITE.
-use crate::descriptor::{FUA, Opcode, RBC_PAGE, six, ten};
+use crate::descriptor::{FUA, six, ten};
 use crate::host::Host;
 use crate::step::Step;
+use cdb::{SixByte, TenByte};
+use commands::MODE_PAGE;
 use shift_log::record::{BRAKE_COMMAND_BLOCK, ENCODER_BLOCKS};
 use shift_log::{Kind, Record};
 use std::alloc::{AllocError, Global};
@@ -50,29 +52,33 @@ impl Script {
                 second: second.saturating_add(i),
             })
             .collect(self.heap)?;
-        let cdb = ten(Opcode::Write, 0, second % ENCODER_BLOCKS, count);
+        let cdb = ten(TenByte::Write, 0, second % ENCODER_BLOCKS, count);
         self.write(name, Host::Brake, &cdb, &records)
     }
 
     // A brake action, forced to the medium.
     fn brake(&mut self, name: &'static str, second: u32) -> Result<(), AllocError> {
         let records = [Kind::BrakeCommand, Kind::BrakePressure].map(|kind| Record { kind, second });
-        let cdb = ten(Opcode::Write, FUA, BRAKE_COMMAND_BLOCK, 2);
+        let cdb = ten(TenByte::Write, FUA, BRAKE_COMMAND_BLOCK, 2);
         self.write(name, Host::Brake, &cdb, &records)
     }
 
     fn service_looks(&mut self) -> Result<(), AllocError> {
         let host = Host::Service;
-        self.ask("INQUIRY", host, &six(Opcode::Inquiry, 0, 36))?;
-        self.ask("TEST UNIT READY", host, &six(Opcode::TestUnitReady, 0, 0))?;
-        self.ask("READ CAPACITY", host, &ten(Opcode::ReadCapacity, 0, 0, 0))?;
-        self.ask("MODE SENSE", host, &six(Opcode::ModeSense, RBC_PAGE, 0xff))
+        self.ask("INQUIRY", host, &six(SixByte::Inquiry, 0, 36))?;
+        self.ask("TEST UNIT READY", host, &six(SixByte::TestUnitReady, 0, 0))?;
+        self.ask("READ CAPACITY", host, &ten(TenByte::ReadCapacity, 0, 0, 0))?;
+        self.ask(
+            "MODE SENSE",
+            host,
+            &six(SixByte::ModeSense, MODE_PAGE, 0xff),
+        )
     }
 
     fn brake_writes(&mut self) -> Result<(), AllocError> {
         let host = Host::Brake;
-        self.ask("TEST UNIT READY", host, &six(Opcode::TestUnitReady, 0, 0))?;
-        self.ask("RESERVE", host, &six(Opcode::Reserve, 0, 0))?;
+        self.ask("TEST UNIT READY", host, &six(SixByte::TestUnitReady, 0, 0))?;
+        self.ask("RESERVE", host, &six(SixByte::Reserve, 0, 0))?;
         self.encoder("WRITE seconds 0 to 3", 0, 4)?;
         self.brake("WRITE brake action, FUA", 3)?;
         self.encoder("WRITE seconds 4 to 9", 4, 6)
@@ -84,20 +90,20 @@ impl Script {
             kind: Kind::Encoder,
             second: 99,
         };
-        self.ask("TEST UNIT READY", host, &six(Opcode::TestUnitReady, 0, 0))?;
-        self.ask("RELEASE", host, &six(Opcode::Release, 0, 0))?;
-        let cdb = ten(Opcode::Write, 0, BRAKE_COMMAND_BLOCK, 1);
+        self.ask("TEST UNIT READY", host, &six(SixByte::TestUnitReady, 0, 0))?;
+        self.ask("RELEASE", host, &six(SixByte::Release, 0, 0))?;
+        let cdb = ten(TenByte::Write, 0, BRAKE_COMMAND_BLOCK, 1);
         self.write("WRITE over block 10", host, &cdb, &[record])
     }
 
     fn power_goes(&mut self) -> Result<(), AllocError> {
         let host = Host::Brake;
-        let read = ten(Opcode::Read, 0, BRAKE_COMMAND_BLOCK, 1);
+        let read = ten(TenByte::Read, 0, BRAKE_COMMAND_BLOCK, 1);
         self.ask("READ block 10", host, &read)?;
         self.ask(
             "SYNCHRONIZE CACHE",
             host,
-            &ten(Opcode::SynchronizeCache, 0, 0, 0),
+            &ten(TenByte::SynchronizeCache, 0, 0, 0),
         )?;
         self.encoder("WRITE seconds 10 to 12", 10, 3)?;
         self.brake("WRITE brake action, FUA", 12)?;

@@ -58,7 +58,7 @@ pub enum CommandError {
 // The count of bytes put at the front of data-in, or why not.
 pub type Answer = Result<u32, CommandError>;
 
-// An answer as the host sees it: each field has the number that stands on the wire.
+// What the host is told, each field as the number that the rules name.
 #[derive(Clone, Copy, PartialEq, Eq, Debug)]
 pub struct Report {
     pub number: u8,

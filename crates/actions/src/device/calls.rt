@@ -8,7 +8,7 @@ ghost use Rattle.rbc_steps.specs.Module.{run_write, run_start_stop, run_change, 
 ghost use Rattle.actions.specs.Modeled.{device_model};
 
 use super::Device;
-use commands::{PowerCondition, StartStop};
+use commands::StartStop;
 use host_data::Extent;
 use logical_unit::{Host, Settings};
 use store::{BLOCK_BYTES, Store, StoreError};
@@ -29,12 +29,7 @@ impl<S: Store> Device<S> {
     pub fn start_stop(&mut self, request: StartStop) -> Result<(), StoreError>
         ensures { stepped result (device_model S.Store.model self.new) ≡ run_start_stop S.Store.steps (power_code request.condition) request.start request.load_eject (device_model S.Store.model self.old) }
     {
-        let StartStop {
-            condition,
-            start,
-            ..
-        } = request;
-        if condition == PowerCondition::Sleep || (condition == PowerCondition::NoChange && !start) {
+        if request.flushes_first() {
             self.store.flush()?;
         }
         self.unit.start_stop(request);

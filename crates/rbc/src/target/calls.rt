@@ -16,7 +16,8 @@ use logical_unit::LogicalUnit;
 use sense::{Answer, CommandError};
 use store::{Store, StoreError};
 
-// A store that does its part answers no for want of power alone.
+// A store that does its part answers no for want of power alone. No `From`: the crates of the two errors know nothing
+// of each other.
 fn answer_of(outcome: Result<u32, StoreError>) -> Answer
     ensures { result ≡ answer_of outcome }
 {
