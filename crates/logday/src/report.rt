@@ -1,7 +1,7 @@
 // What a run did, in lines to read.
 use flash_card::FlashCard;
 use log_pile::{Remains, reopened};
-use shift_log::{LOG_BLOCKS, Outcome, Record, Shift};
+use shift_log::{Found, LOG_BLOCKS, Outcome, Record, Shift};
 use std::fmt;
 use store::Store;
 
@@ -84,10 +84,8 @@ pub fn print_medium(rt: &HostRuntime, card: FlashCard) -> anyhow::Result<()> {
     let mut card = reopened(card);
     println!(rt; "  on the card")?;
     for block in 0..LOG_BLOCKS {
-        match Record::from_content(&card.read_block(block)?) {
-            Some(record) => println!(rt; "    block {block:>2}    {record}")?,
-            None => println!(rt; "    block {block:>2}    no record")?,
-        }
+        let found = Found(Record::from_content(&card.read_block(block)?));
+        println!(rt; "    block {block:>2}    {found}")?;
     }
     Ok(())
 }
