@@ -19,20 +19,15 @@ impl Recording {
     // Writes the seconds with a brake action: the first of them, and how many more there are.
     fn write_brake_actions<W: fmt::Write>(&self, f: &mut fmt::Formatter<W>) -> fmt::Result {
         let shift = self.shift;
-        let actions = (0..self.outcome.seconds).filter(|&second| shift.brakes_at(second));
-        let mut count = 0usize;
-        for second in actions {
-            if count < LISTED {
-                write!(f, " {second}")?;
-            }
-            count = count.saturating_add(1);
+        let actions = || (0..self.outcome.seconds).filter(|&second| shift.brakes_at(second));
+        for second in actions().take(LISTED) {
+            write!(f, " {second}")?;
         }
-        if count == 0 {
-            write!(f, " (none)")?;
-        } else if count > LISTED {
-            write!(f, " and {} more", count - LISTED)?;
+        match actions().count() {
+            0 => write!(f, " (none)"),
+            count if count > LISTED => write!(f, " and {} more", count - LISTED),
+            _ => Ok(()),
         }
-        Ok(())
     }
 }
 
