@@ -7,6 +7,7 @@ mod layout;
 mod pages;
 
 use medium::BlockMedium;
+pub use pages::PAGE_BYTES;
 use pages::Pages;
 
 pub type FlashCard = BlockMedium<Card>;

@@ -2,13 +2,13 @@
 ghost use Rattle.std.specs.Prelude.{◌≡◌, IfOk};
 ghost use Rattle.log_pile.specs.Pile.{erased, reopened};
 
-use flash_card::FlashCard;
+use flash_card::{FlashCard, PAGE_BYTES};
 use shift_log::LOG_BLOCKS;
 use std::alloc::{AllocError, Global};
 use store::Store;
 
-// four pages more than blocks, 516 bytes each
-pub const CARD_BYTES: usize = 16 * 516;
+// four pages more than blocks
+pub const CARD_BYTES: usize = (LOG_BLOCKS as usize + 4) * PAGE_BYTES;
 
 // A card of FFh bytes throughout, which makes so many block stores before the power goes.
 pub fn erased_card(heap: Global, grant: u32) -> Result<FlashCard, AllocError>

@@ -1,7 +1,7 @@
 // What a run did, in lines to read.
 use flash_card::FlashCard;
 use log_pile::{Remains, reopened};
-use shift_log::{LOG_BLOCKS, Outcome, Record, Shift};
+use shift_log::{Found, LOG_BLOCKS, Outcome, Record, Shift};
 use std::fmt;
 use store::Store;
 
@@ -19,20 +19,15 @@ impl Recording {
     // Writes the seconds with a brake action: the first of them, and how many more there are.
     fn write_brake_actions<W: fmt::Write>(&self, f: &mut fmt::Formatter<W>) -> fmt::Result {
         let shift = self.shift;
-        let actions = (0..self.outcome.seconds).filter(|&second| shift.brakes_at(second));
-        let mut count = 0usize;
-        for second in actions {
-            if count < LISTED {
-                write!(f, " {second}")?;
-            }
-            count = count.saturating_add(1);
+        let actions = || (0..self.outcome.seconds).filter(|&second| shift.brakes_at(second));
+        for second in actions().take(LISTED) {
+            write!(f, " {second}")?;
         }
-        if count == 0 {
-            write!(f, " (none)")?;
-        } else if count > LISTED {
-            write!(f, " and {} more", count - LISTED)?;
+        match actions().count() {
+            0 => write!(f, " (none)"),
+            count if count > LISTED => write!(f, " and {} more", count - LISTED),
+            _ => Ok(()),
         }
-        Ok(())
     }
 }
 
@@ -84,10 +79,8 @@ pub fn print_medium(rt: &HostRuntime, card: FlashCard) -> anyhow::Result<()> {
     let mut card = reopened(card);
     println!(rt; "  on the card")?;
     for block in 0..LOG_BLOCKS {
-        match Record::from_content(&card.read_block(block)?) {
-            Some(record) => println!(rt; "    block {block:>2}    {record}")?,
-            None => println!(rt; "    block {block:>2}    no record")?,
-        }
+        let found = Found(Record::from_content(&card.read_block(block)?));
+        println!(rt; "    block {block:>2}    {found}")?;
     }
     Ok(())
 }

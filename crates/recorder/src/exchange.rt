@@ -53,7 +53,7 @@ impl Exchange {
 
 impl fmt::Display for Exchange {
     fn fmt<W: fmt::Write>(&self, f: &mut fmt::Formatter<W>) -> fmt::Result {
-        let host = self.step.host.number();
+        let host = u32::from(self.step.host);
         let name = self.step.name;
         let report = Report::from(self.reply.answer);
         write!(f, "host {host}  {name:<24} {report}")?;

@@ -6,8 +6,8 @@ pub enum Host {
     Service = 2,
 }
 
-impl Host {
-    pub fn number(self) -> u32 {
-        self as u32
+impl From<Host> for u32 {
+    fn from(host: Host) -> u32 {
+        host as u32
     }
 }

@@ -12,7 +12,7 @@ mod step;
 
 use exchange::Exchange;
 use log_pile::{Pile, Remains, erased_card, pile_over};
-use report::{print_medium, print_pile};
+use report::{Left, print_medium};
 use scene::scene;
 use session::{Call, Session, play};
 use std::alloc::Global;
@@ -36,7 +36,11 @@ fn run(rt: &HostRuntime) -> anyhow::Result<()> {
     for exchange in &exchanges {
         println!(rt; "{exchange}")?;
     }
-    print_pile(rt, GRANT, &remains)?;
+    let left = Left {
+        grant: GRANT,
+        remains: &remains,
+    };
+    println!(rt; "{left}")?;
     print_medium(rt, &exchanges, remains.card)
 }
 

@@ -13,14 +13,14 @@ pub struct Numbers {
 impl Numbers {
     // The numbers of what is found at the block.
     pub fn at(block: u32, found: &[u8], exchanges: &[Exchange]) -> Numbers {
-        let mut numbers = Numbers::default();
-        for content in exchanges
+        let contents = exchanges
             .iter()
-            .filter_map(|exchange| exchange.written(block))
-        {
-            numbers.latest = numbers.latest.saturating_add(1);
+            .filter_map(|exchange| exchange.written(block));
+        let mut numbers = Numbers::default();
+        for (number, content) in (1..).zip(contents) {
+            numbers.latest = number;
             if content == found {
-                numbers.found = numbers.latest;
+                numbers.found = number;
             }
         }
         numbers

@@ -46,10 +46,11 @@ impl Script {
 
     // So many encoder records from this second on; a WRITE of them starts at the first record's block.
     fn encoder(&mut self, name: &'static str, second: u32, count: u16) -> Result<(), AllocError> {
-        let records: Vec<Record> = (0..u32::from(count))
-            .map(|i| Record {
+        let seconds = second..second.saturating_add(u32::from(count));
+        let records: Vec<Record> = seconds
+            .map(|second| Record {
                 kind: Kind::Encoder,
-                second: second.saturating_add(i),
+                second,
             })
             .collect(self.heap)?;
         let cdb = ten(TenByte::Write, 0, second % ENCODER_BLOCKS, count);

@@ -20,7 +20,7 @@ impl Step {
     // The call on the module.
     pub fn call(&self) -> Call<'_> {
         Call::Command {
-            host: self.host.number(),
+            host: self.host.into(),
             cdb: &self.cdb,
             data_out: &self.data_out,
             data_in: &DATA_IN,

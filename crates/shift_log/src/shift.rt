@@ -7,7 +7,8 @@ use std::fmt;
 #[derive(Clone, Copy, PartialEq, Eq, Debug)]
 pub struct Shift {
     pub seconds: u32,
-    // the brake acts in the last of so many seconds; 0: never (a number, since the theorems on recordings speak of it)
+    // the brake acts in the last of so many seconds; 0: never. An Option would be no plainer: 0 stands for it on the
+    // command line and in the theorems too.
     pub brake_every: u32,
 }
 

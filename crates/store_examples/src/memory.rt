@@ -4,17 +4,19 @@ ghost use Rattle.store_examples.specs.Memory.{block_memory, page_memory};
 
 use crate::filled;
 use std::alloc::{AllocError, Global};
+use std::iter::repeat_n;
+
+// the owner that the layout gives a page of no block
+const NOBODY: u32 = u32::MAX;
 
 // The memory of a flat medium: for each byte a block that has it throughout.
 pub fn blocks(heap: Global, bytes: &[u8]) -> Result<Vec<u8>, AllocError>
     ensures { IfOk result (λ memory. memory.items ≡ block_memory bytes.now) }
 {
-    // a loop: as `flat_map` and `collect` the proof didn't close
-    let mut memory = Vec::new(heap);
-    for byte in bytes {
-        memory.extend_from_slice(&filled(*byte))?;
-    }
-    Ok(memory)
+    bytes
+        .iter()
+        .flat_map(|&byte| repeat_n(byte, 512))
+        .collect(heap)
 }
 
 // A page of a flash card, with one byte throughout its content.
@@ -35,14 +37,14 @@ pub fn owned(owner: u32, byte: u8) -> Page
 pub fn free(byte: u8) -> Page
     ensures { (result.owner ≡ 0xffff_ffff) × (result.byte ≡ byte) }
 {
-    owned(0xffff_ffff, byte)
+    owned(NOBODY, byte)
 }
 
 // The memory of a flash card with these pages.
 pub fn pages(heap: Global, pages: &[Page]) -> Result<Vec<u8>, AllocError>
     ensures { IfOk result (λ memory. memory.items ≡ page_memory pages.now) }
 {
-    // a loop, as in `blocks`
+    // a loop: tried as `flat_map` over the owner's bytes and the content: the proof didn't close
     let mut memory = Vec::new(heap);
     for page in pages {
         memory.extend_from_slice(&page.owner.to_be_bytes())?;
