@@ -5,6 +5,7 @@ ghost use Rattle.store_examples.specs.Memory.{block_memory, page_memory};
 use crate::filled;
 use std::alloc::{AllocError, Global};
 use std::iter::repeat_n;
+use store::BLOCK_BYTES;
 
 // the owner that the layout gives a page of no block
 const NOBODY: u32 = u32::MAX;
@@ -15,7 +16,7 @@ pub fn blocks(heap: Global, bytes: &[u8]) -> Result<Vec<u8>, AllocError>
 {
     bytes
         .iter()
-        .flat_map(|&byte| repeat_n(byte, 512))
+        .flat_map(|&byte| repeat_n(byte, BLOCK_BYTES))
         .collect(heap)
 }
 
