@@ -14,7 +14,7 @@ pub const PAGE_BYTES: usize = OWNER_BYTES + BLOCK_BYTES;
 const NOBODY: u32 = u32::MAX;
 
 // A page's number is bounded at each method: a type for it would have to borrow the pages, also while one is written.
-// Methods that write say that the length stays: it is the invariant of the card, which owns the pages.
+// Methods that write say that the length stays: of a `Vec` inside, unlike a slice, it is not known by itself.
 #[derive(Drop)]
 pub struct Pages {
     pub memory: Vec<u8>,

@@ -35,7 +35,7 @@ impl Default for Settings {
     }
 }
 
-// No TryFrom and no From: the list is bytes as any other, and the mode data needs the count too.
+// No TryFrom: a list of another length is no error, and changes nothing. No From: the mode data needs the count too.
 impl Settings {
     // The settings in a parameter list of MODE SELECT; none if it is not 17 bytes long.
     pub fn from_list(list: &[u8]) -> Option<Settings>

@@ -4,10 +4,12 @@ ghost use Rattle.commands.specs.Codes.{power_code, control_code};
 ghost use Rattle.logical_unit.specs.Hosts.{host_number};
 ghost use Rattle.logical_unit.specs.State.{new_unit, higher, pending, raised_all, raised_others, cleared, barred, reserved, released, started, settings_changed, shown_settings, unit_reset};
 
-use crate::host::Host;
+use crate::host::{HOSTS, Host};
 use crate::settings::Settings;
 use commands::{PageControl, PowerCondition, StartStop};
 use sense::Attention;
+
+const HOST_COUNT: usize = HOSTS as usize;
 
 #[derive(Clone, Copy, PartialEq, Eq, Debug)]
 pub enum Condition {
@@ -18,7 +20,7 @@ pub enum Condition {
     Stopped,
 }
 
-// Bars and attentions are two lists by host, and no list of hosts: but for RESET no rule speaks of both.
+// Bars and attentions are two lists by host, and no list of hosts: MAKE and RESET alone speak of both.
 #[derive(Clone, Copy, PartialEq, Eq, Debug)]
 pub struct LogicalUnit {
     pub loaded: bool,
@@ -26,9 +28,9 @@ pub struct LogicalUnit {
     // the number of the host that holds the reservation: `reserve` and `release` take any number
     pub holder: Option<u32>,
     // for each host: it prevents the removal of the medium
-    pub bars: [bool; 4],
+    pub bars: [bool; HOST_COUNT],
     // for each host: the attention that it has still to be told
-    pub attentions: [Option<Attention>; 4],
+    pub attentions: [Option<Attention>; HOST_COUNT],
     pub settings: Settings,
 }
 
@@ -47,8 +49,8 @@ impl LogicalUnit {
             loaded: true,
             condition: Condition::Active,
             holder: None,
-            bars: [false; 4],
-            attentions: [Some(Attention::PowerOnOrReset); 4],
+            bars: [false; HOST_COUNT],
+            attentions: [Some(Attention::PowerOnOrReset); HOST_COUNT],
             settings: Settings::default(),
         }
     }
@@ -112,8 +114,8 @@ impl LogicalUnit {
     {
         self.condition = Condition::Active;
         self.holder = None;
-        self.bars = [false; 4];
-        self.attentions = [Some(Attention::PowerOnOrReset); 4];
+        self.bars = [false; HOST_COUNT];
+        self.attentions = [Some(Attention::PowerOnOrReset); HOST_COUNT];
     }
 
     // MODE SENSE: the default settings, or the current ones.

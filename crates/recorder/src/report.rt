@@ -33,7 +33,8 @@ impl fmt::Display for Left<'_> {
     }
 }
 
-// What the next power-on would find on the card, block by block.
+// What the next power-on would find on the card, block by block. A loop in each program: what is printed of a block
+// differs, and a closure for it would be longer than the loop.
 pub fn print_medium(
     rt: &HostRuntime,
     exchanges: &[Exchange],

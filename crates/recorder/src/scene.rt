@@ -4,7 +4,7 @@ use crate::descriptor::{FUA, six, ten};
 use crate::host::Host;
 use crate::step::Step;
 use cdb::{SixByte, TenByte};
-use commands::MODE_PAGE;
+use commands::{INQUIRY_BYTES, MODE_PAGE};
 use shift_log::record::{BRAKE_COMMAND_BLOCK, ENCODER_BLOCKS};
 use shift_log::{Kind, Record};
 use std::alloc::{AllocError, Global};
@@ -66,7 +66,11 @@ impl Script {
 
     fn service_looks(&mut self) -> Result<(), AllocError> {
         let host = Host::Service;
-        self.ask("INQUIRY", host, &six(SixByte::Inquiry, 0, 36))?;
+        self.ask(
+            "INQUIRY",
+            host,
+            &six(SixByte::Inquiry, 0, INQUIRY_BYTES as u8),
+        )?;
         self.ask("TEST UNIT READY", host, &six(SixByte::TestUnitReady, 0, 0))?;
         self.ask("READ CAPACITY", host, &ten(TenByte::ReadCapacity, 0, 0, 0))?;
         self.ask(

@@ -6,7 +6,7 @@ use session::Call;
 use store::BLOCK_BYTES;
 
 // what each command finds in data-in
-const DATA_IN: [u8; 512] = [0xee; 512];
+const DATA_IN: [u8; BLOCK_BYTES] = [0xee; BLOCK_BYTES];
 
 #[derive(Drop)]
 pub struct Step {

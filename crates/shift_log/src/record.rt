@@ -33,7 +33,7 @@ impl Record {
         }
     }
 
-    // The record as the content of a block, which reads back as the record.
+    // The record as the content of a block, which reads back as the record. (A `From` could not say that.)
     pub fn to_content(self) -> [u8; BLOCK_BYTES]
         ensures value { result ≡ encoded self }
         ensures back { decoded result ≡ Some self }
@@ -44,7 +44,7 @@ impl Record {
         content
     }
 
-    // The record that a block's content holds, if it holds one.
+    // The record that a block's content holds, if it holds one. (No `TryFrom`: that it holds none is no error.)
     pub fn from_content(content: &[u8]) -> Option<Record>
         ensures { result ≡ decoded content.now }
     {

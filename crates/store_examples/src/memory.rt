@@ -7,7 +7,7 @@ use std::alloc::{AllocError, Global};
 use std::iter::repeat_n;
 use store::BLOCK_BYTES;
 
-// the owner that the layout gives a page of no block
+// the owner that the layout gives a page of no block: the tests' own, to which the card is held
 const NOBODY: u32 = u32::MAX;
 
 // The memory of a flat medium: for each byte a block that has it throughout.
