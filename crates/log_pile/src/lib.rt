@@ -5,7 +5,7 @@ mod card;
 mod pile;
 
 pub use card::{CARD_BYTES, erased_card, reopened};
-pub use pile::{NoMemory, Pile, Remains, pile_over};
+pub use pile::{Pile, Remains, pile_over};
 
 #[cfg(test)]
 mod tests {

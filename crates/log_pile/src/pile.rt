@@ -1,33 +1,25 @@
 // The pile, made over a card, and taken apart after a run.
-ghost use Rattle.std.specs.Prelude.{◌≡◌, ◌-◌, length, IfOk, nat_lt};
+ghost use Rattle.std.specs.Prelude.{◌≡◌, ◌-◌, length, IfOk, MatchResult, nat_lt};
 ghost use Rattle.slot_table.specs.Slots.{full};
 ghost use Rattle.log_pile.specs.Pile.{empty_over};
 
 use flash_card::FlashCard;
 use queue_cache::QueueCache;
-use std::alloc::Global;
+use std::alloc::{AllocFailed, Global};
 use store::Store;
 use table_cache::TableCache;
-use thiserror::Error;
 
 pub type Pile = TableCache<QueueCache<FlashCard>>;
 
-// Which cache there was no memory for.
-#[derive(Clone, Copy, PartialEq, Eq, Debug, Error)]
-pub enum NoMemory {
-    #[error("no memory for the queue cache")]
-    QueueCache,
-    #[error("no memory for the table cache")]
-    TableCache,
-}
-
-// Empty caches over the card.
-pub fn pile_over(heap: Global, card: FlashCard) -> Result<Pile, NoMemory>
-    ensures over { IfOk result (λ pile. pile.below.below ≡ card) }
+// Empty caches over the card, or the card back for want of memory.
+pub fn pile_over(heap: Global, card: FlashCard) -> Result<Pile, AllocFailed<FlashCard>>
+    ensures over { MatchResult result (λ pile. pile.below.below ≡ card) (λ back. back.value ≡ card) }
     ensures empty { IfOk result (λ pile. ⟦<Pile as Store>⟧.model pile ≡ empty_over (⟦<FlashCard as Store>⟧.model card)) }
 {
-    let queue = QueueCache::new(heap, card).map_err(|_| NoMemory::QueueCache)?;
-    TableCache::new(heap, queue).map_err(|_| NoMemory::TableCache)
+    let queue = QueueCache::new(heap, card)?;
+    TableCache::new(heap, queue).map_err(|failed| AllocFailed {
+        value: failed.value.into_below(),
+    })
 }
 
 // What a run left of the pile.

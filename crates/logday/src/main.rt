@@ -8,11 +8,13 @@ use log_pile::{Remains, erased_card, pile_over};
 use logday_options::{Options, USAGE};
 use report::{Held, Recording, print_medium};
 use shift_log::{Shift, record_shift};
+use std::alloc::AllocError;
 use std::env;
 
 // One run: the shift is recorded on an erased card with this grant of block stores.
 fn run(rt: &HostRuntime, shift: Shift, grant: u32) -> anyhow::Result<()> {
-    let mut pile = pile_over(rt.alloc(), erased_card(rt.alloc(), grant)?)?;
+    let card = erased_card(rt.alloc(), grant)?;
+    let mut pile = pile_over(rt.alloc(), card).map_err(AllocError::from)?;
     let outcome = record_shift(&mut pile, shift);
     let recording = Recording { shift, outcome };
     println!(rt; "{recording}")?;

@@ -16,6 +16,13 @@ pub struct Recording {
 }
 
 impl Recording {
+    // How many blocks were put in the seconds that were recorded whole.
+    fn blocks_put(&self) -> u32 {
+        (0..self.outcome.seconds)
+            .map(|second| self.shift.blocks_of(second))
+            .fold(0, |sum: u32, blocks| sum.saturating_add(blocks))
+    }
+
     // Writes the seconds with a brake action: the first of them, and how many more there are.
     fn write_brake_actions<W: fmt::Write>(&self, f: &mut fmt::Formatter<W>) -> fmt::Result {
         let shift = self.shift;
@@ -34,17 +41,20 @@ impl Recording {
 impl fmt::Display for Recording {
     fn fmt<W: fmt::Write>(&self, f: &mut fmt::Formatter<W>) -> fmt::Result {
         let Outcome { seconds, answer } = self.outcome;
-        writeln!(
-            f,
-            "  put           {seconds} seconds whole, an encoder block each"
-        )?;
+        let blocks = self.blocks_put();
+        writeln!(f, "  put           {blocks} blocks in {seconds} seconds")?;
+        writeln!(f, "                an encoder block each second")?;
         write!(f, "                two brake blocks in seconds")?;
         self.write_brake_actions(f)?;
         writeln!(f)?;
         match answer {
             Ok(()) => write!(f, "  ended         with a flush"),
             Err(_) if seconds < self.shift.seconds => {
-                write!(f, "  ended         power lost in second {seconds}")
+                let begun = self.shift.blocks_of(seconds);
+                write!(
+                    f,
+                    "  ended         power lost in second {seconds}, with up to {begun} blocks put in it"
+                )
             }
             Err(_) => write!(f, "  ended         power lost in the flush"),
         }

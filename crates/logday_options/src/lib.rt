@@ -1,7 +1,10 @@
 // What the command line of logday asks for.
 #![tactic(auto)]
 
-ghost use Rattle.std.specs.Prelude.{◌≡◌, ◌≤◌, IfSome, IfOk, None, Ok};
+ghost use Rattle.std.specs.Prelude.{IfOk, IfErr, Option};
+ghost use Rattle.std.specs.Vec.Iter.{into_iter_items};
+ghost use Rattle.logday_options.specs.declared.Options.{Options};
+ghost use Rattle.logday_options.specs.Words.{Says, Asked};
 
 use anyhow::{anyhow, ensure};
 use shift_log::Shift;
@@ -23,7 +26,8 @@ pub struct Options {
 impl Options {
     // The options from the words after the program's name, or none if help is asked for.
     pub fn parse(mut words: Args) -> anyhow::Result<Option<Options>>
-        ensures { IfOk result (λ o. IfSome o (λ p. p.shift.seconds ≤ 86400)) }
+        ensures asked { IfOk result (Asked (into_iter_items words)) }
+        ensures refused { IfErr result (λ _. (asked : Option Options) → ¬ Asked (into_iter_items words) asked) }
     {
         let first = words.next();
         if first.as_ref().is_some_and(|word| word.as_str() == "--help") {
@@ -49,7 +53,7 @@ impl Options {
 
 // The number that a word says, or the default if there is no word.
 fn number(word: Option<String>, default: u32) -> anyhow::Result<u32>
-    ensures { word ≡ None → result ≡ Ok default }
+    ensures { Says default word result }
 {
     let Some(word) = word else {
         return Ok(default);

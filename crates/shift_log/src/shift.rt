@@ -1,6 +1,7 @@
 // A shift: how long it lasts, and when the brake acts.
 ghost use Rattle.std.specs.Prelude.{◌≡◌};
 ghost use Rattle.shift_log.specs.Records.{brakes_at};
+ghost use Rattle.shift_log.specs.Recording.{puts, second_calls};
 
 use std::fmt;
 
@@ -18,6 +19,13 @@ impl Shift {
         ensures { result ≡ brakes_at self.brake_every second }
     {
         self.brake_every != 0 && second % self.brake_every == self.brake_every - 1
+    }
+
+    // How many blocks a second puts: the encoder's, and two more for a brake action.
+    pub fn blocks_of(self, second: u32) -> u32
+        ensures { result ≡ puts (second_calls self.brake_every second) }
+    {
+        if self.brakes_at(second) { 3 } else { 1 }
     }
 }
 

@@ -1,0 +1,2 @@
+pub mod Bottoms
+pub mod Orders

@@ -1,0 +1,41 @@
+-- Orders: which caches stand over a medium, and the pile that they make.
+use Rattle.std.specs.Prelude.{List, [], ◌∷◌}
+use Rattle.store.specs.Steps.{Steps}
+use Rattle.store.specs.Meaning.{Meaning}
+use Rattle.medium.specs.Medium.{medium_steps, medium_meaning}
+use Rattle.flat_medium.specs.Flat.{flat}
+use Rattle.flat_medium.specs.Modeled.{flat_model}
+use Rattle.flash_card.specs.Card.{card}
+use Rattle.flash_card.specs.Modeled.{card_model}
+use Rattle.cache.specs.Kinds.{CacheKind, holding, cache_steps, cache_meaning}
+use Rattle.table_cache.specs.Table.{table_kind}
+use Rattle.queue_cache.specs.Queue.{queue_kind}
+use Rattle.piles.specs.declared.bottom.Bottom.{Bottom}
+use Rattle.piles.specs.declared.bottom.Bottom.TheVariants.{Flat, Card}
+use Rattle.piles.specs.declared.order.Layer.{Layer}
+use Rattle.piles.specs.declared.order.Layer.TheVariants.{Table, Queue}
+
+-- a store by its steps and its meaning, and the state that it starts in
+pub record Start : Type 1 where
+  pub Model : Type 0
+  pub steps : Steps Model
+  pub meaning : Model → Meaning
+  pub state : Model
+
+abbrev pub start : {M : Type 0} → Steps M → (M → Meaning) → M → Start
+start {M = M} steps meaning state = record { Model = M; steps = steps; meaning = meaning; state = state }
+
+-- an empty cache over it
+abbrev pub under_cache : CacheKind → Start → Start
+under_cache kind below =
+    start (cache_steps kind below.steps) (cache_meaning kind below.meaning) (holding kind.empty below.state)
+
+-- empty caches, from the bottom up
+abbrev pub under_caches : List Layer → Start → Start
+under_caches [] below = below
+under_caches (Table ∷ layers) below = under_caches layers (under_cache table_kind below)
+under_caches (Queue ∷ layers) below = under_caches layers (under_cache queue_kind below)
+
+abbrev pub bottom : Bottom → Start
+bottom (Flat m) = start (medium_steps flat) (medium_meaning flat) (flat_model m.layout m.count m.grant)
+bottom (Card c) = start (medium_steps card) (medium_meaning card) (card_model c.layout c.count c.grant)

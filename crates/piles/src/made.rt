@@ -1,0 +1,62 @@
+// New media.
+ghost use Rattle.std.specs.Prelude.{◌≡◌, IfOk};
+ghost use Rattle.piles.specs.Bottoms.{IsNew};
+
+use crate::bottom::Bottom;
+use flash_card::{FlashCard, PAGE_BYTES};
+use flat_medium::FlatMedium;
+use medium::Unfit;
+use std::alloc::{AllocError, Global};
+use store::BLOCK_BYTES;
+use thiserror::Error;
+
+// A kind of medium.
+#[derive(Clone, Copy, PartialEq, Eq, Debug)]
+pub enum MediumKind {
+    Flat,
+    Card { pages: u32 },
+}
+
+// Why a medium is not made.
+#[derive(Clone, Copy, PartialEq, Eq, Debug, Error)]
+pub enum MediumError {
+    #[error("{0}")]
+    Unfit(Unfit),
+    #[error("no memory for the medium")]
+    NoMemory,
+}
+
+impl From<Unfit> for MediumError {
+    fn from(unfit: Unfit) -> MediumError {
+        MediumError::Unfit(unfit)
+    }
+}
+
+impl From<AllocError> for MediumError {
+    fn from(_: AllocError) -> MediumError {
+        MediumError::NoMemory
+    }
+}
+
+// A medium of so many blocks: flat memory of zeros, or a card of FFh bytes.
+pub fn new_medium(
+    heap: Global,
+    kind: MediumKind,
+    blocks: u32,
+    grant: u32,
+) -> Result<Bottom, MediumError>
+    ensures { IfOk result (IsNew kind blocks grant) }
+{
+    match kind {
+        MediumKind::Flat => {
+            let memory = vec![in heap; 0_u8; blocks as usize * BLOCK_BYTES]?;
+            FlatMedium::check(&memory, blocks)?;
+            Ok(Bottom::Flat(FlatMedium::new(memory, blocks, grant)))
+        }
+        MediumKind::Card { pages } => {
+            let memory = vec![in heap; 0xff_u8; pages as usize * PAGE_BYTES]?;
+            FlashCard::check(&memory, blocks)?;
+            Ok(Bottom::Card(FlashCard::new(memory, blocks, grant)))
+        }
+    }
+}

@@ -1,0 +1,141 @@
+// Which caches stand over the medium, and what is done with such a pile.
+ghost use Rattle.std.specs.Prelude.{◌≡◌, IfOk};
+ghost use Rattle.store.specs.Steps.{Steps};
+ghost use Rattle.store.specs.Meaning.{Meaning};
+ghost use Rattle.cache.specs.Kinds.{holding};
+ghost use Rattle.table_cache.specs.Table.{table_kind};
+ghost use Rattle.queue_cache.specs.Queue.{queue_kind};
+ghost use Rattle.piles.specs.Orders.{start, bottom, under_caches};
+
+use crate::bottom::Bottom;
+use crate::pile::Pile;
+use queue_cache::QueueCache;
+use std::alloc::{AllocError, Global};
+use store::Store;
+use table_cache::TableCache;
+use thiserror::Error;
+
+// A cache of a pile, by its kind.
+#[derive(Clone, Copy, PartialEq, Eq, Debug)]
+pub enum Layer {
+    Table,
+    Queue,
+}
+
+// Why a pile is not made.
+#[derive(Clone, Copy, PartialEq, Eq, Debug, Error)]
+pub enum PileError {
+    #[error("a pile has at most three caches")]
+    TooManyCaches,
+    #[error("no memory for a cache")]
+    NoMemory,
+}
+
+impl From<AllocError> for PileError {
+    fn from(_: AllocError) -> PileError {
+        PileError::NoMemory
+    }
+}
+
+// What is done with a pile of any kind.
+pub trait Task {
+    type Output;
+
+    // what it gives, by the steps and the meaning of the pile, and the state that it starts in
+    ghost gives: { {M : Type 0} → Self → Steps M → (M → Meaning) → M → Self.Output → Type 0 };
+
+    fn run<S: Pile>(self, pile: S) -> Self::Output
+        ensures { gives self S.Store.steps S.Store.meaning (S.Store.model pile) result };
+}
+
+// The task on the medium under these caches, the first lowest; all are empty.
+pub fn with_pile<T: Task + Drop>(
+    heap: Global,
+    medium: Bottom,
+    layers: &[Layer],
+    task: T,
+) -> Result<T::Output, PileError>
+    ensures { IfOk result (λ output. let p = under_caches layers.now (bottom medium) in T.gives task p.steps p.meaning p.state output) }
+{
+    match medium {
+        Bottom::Flat(medium) => under_three(heap, medium, layers, task),
+        Bottom::Card(card) => under_three(heap, card, layers, task),
+    }
+}
+
+fn under_three<S: Pile, T: Task + Drop>(
+    heap: Global,
+    pile: S,
+    layers: &[Layer],
+    task: T,
+) -> Result<T::Output, PileError>
+    ensures { IfOk result (λ output. let p = under_caches layers.now (start S.Store.steps S.Store.meaning (S.Store.model pile)) in T.gives task p.steps p.meaning p.state output) }
+{
+    let Some((layer, rest)) = layers.split_first() else {
+        return Ok(task.run(pile));
+    };
+    match layer {
+        Layer::Table => under_two(heap, table_over(heap, pile)?, rest, task),
+        Layer::Queue => under_two(heap, queue_over(heap, pile)?, rest, task),
+    }
+}
+
+fn under_two<S: Pile, T: Task + Drop>(
+    heap: Global,
+    pile: S,
+    layers: &[Layer],
+    task: T,
+) -> Result<T::Output, PileError>
+    ensures { IfOk result (λ output. let p = under_caches layers.now (start S.Store.steps S.Store.meaning (S.Store.model pile)) in T.gives task p.steps p.meaning p.state output) }
+{
+    let Some((layer, rest)) = layers.split_first() else {
+        return Ok(task.run(pile));
+    };
+    match layer {
+        Layer::Table => under_one(heap, table_over(heap, pile)?, rest, task),
+        Layer::Queue => under_one(heap, queue_over(heap, pile)?, rest, task),
+    }
+}
+
+fn under_one<S: Pile, T: Task + Drop>(
+    heap: Global,
+    pile: S,
+    layers: &[Layer],
+    task: T,
+) -> Result<T::Output, PileError>
+    ensures { IfOk result (λ output. let p = under_caches layers.now (start S.Store.steps S.Store.meaning (S.Store.model pile)) in T.gives task p.steps p.meaning p.state output) }
+{
+    let Some((layer, rest)) = layers.split_first() else {
+        return Ok(task.run(pile));
+    };
+    match layer {
+        Layer::Table => under_none(table_over(heap, pile)?, rest, task),
+        Layer::Queue => under_none(queue_over(heap, pile)?, rest, task),
+    }
+}
+
+fn under_none<S: Pile, T: Task + Drop>(
+    pile: S,
+    layers: &[Layer],
+    task: T,
+) -> Result<T::Output, PileError>
+    ensures { IfOk result (λ output. let p = under_caches layers.now (start S.Store.steps S.Store.meaning (S.Store.model pile)) in T.gives task p.steps p.meaning p.state output) }
+{
+    if layers.is_empty() {
+        Ok(task.run(pile))
+    } else {
+        Err(PileError::TooManyCaches)
+    }
+}
+
+fn table_over<S: Pile>(heap: Global, pile: S) -> Result<TableCache<S>, AllocError>
+    ensures { IfOk result (λ cache. ⟦<TableCache<S> as Store>⟧.model cache ≡ holding table_kind.empty (S.Store.model pile)) }
+{
+    Ok(TableCache::new(heap, pile)?)
+}
+
+fn queue_over<S: Pile>(heap: Global, pile: S) -> Result<QueueCache<S>, AllocError>
+    ensures { IfOk result (λ cache. ⟦<QueueCache<S> as Store>⟧.model cache ≡ holding queue_kind.empty (S.Store.model pile)) }
+{
+    Ok(QueueCache::new(heap, pile)?)
+}
