@@ -1,0 +1,79 @@
+// The rows of a book.
+ghost use Rattle.std.specs.Prelude.{◌≡◌, ℕ, ◌<◌, [], ◌++◌, map, IfOk, length};
+ghost use Rattle.rbc_steps.specs.Writes.{added, added_to};
+ghost use Rattle.session.specs.Sessions.{call_of};
+ghost use Rattle.book.specs.Rows.{row, with_content};
+
+use cdb::decode;
+use commands::Command;
+use sense::{Answer, CommandError};
+use session::Call;
+use std::alloc::{AllocError, Global};
+use store::BLOCK_BYTES;
+
+#[derive(Drop)]
+pub struct Book<'a> {
+    rows: Vec<Vec<&'a [u8]>>,
+}
+
+impl<'a> Book<'a> {
+    // A row without contents for each of so many blocks.
+    pub fn new(heap: Global, blocks: u32) -> Result<Book<'a>, AllocError>
+        ensures { IfOk result (λ book. (length book.rows.items ≡ blocks) × ((b : ℕ) → row book.rows.items b ≡ [])) }
+    {
+        let mut rows = Vec::new(heap);
+        for _ in 0..blocks {
+            rows.push(Vec::new(heap))?;
+        }
+        Ok(Book { rows })
+    }
+
+    // The contents written to a block, oldest first.
+    pub fn row(&self, block: u32) -> &[&'a [u8]]
+        ensures { map (λ x. x.now) result.now ≡ row self.now.rows.items block }
+    {
+        match self.rows.get(block as usize) {
+            Some(row) => row,
+            None => &[],
+        }
+    }
+
+    // A content written to a block, if there is a row for it.
+    fn add(&mut self, block: usize, content: &'a [u8]) -> Result<(), AllocError>
+        ensures { IfOk result (λ _. (length self.new.rows.items ≡ length self.old.rows.items) × ((b : ℕ) → b < length self.old.rows.items → row self.new.rows.items b ≡ with_content (row self.old.rows.items b) block content.now b)) }
+    {
+        match self.rows.get_mut(block) {
+            Some(row) => Ok(row.push(content)?),
+            None => Ok(()),
+        }
+    }
+
+    // What a WRITE writes, block by block.
+    fn add_blocks(&mut self, address: u32, count: u16, bytes: &'a [u8]) -> Result<(), AllocError>
+        ensures { IfOk result (λ _. (length self.new.rows.items ≡ length self.old.rows.items) × ((b : ℕ) → b < length self.old.rows.items → row self.new.rows.items b ≡ row self.old.rows.items b ++ added_to b address count bytes.now)) }
+    {
+        for (i, content) in bytes.chunks_exact(BLOCK_BYTES).take(usize::from(count)).enumerate() {
+            self.add(address as usize + i, content)?;
+        }
+        Ok(())
+    }
+
+    // A call with its answer: a WRITE that was not refused adds its contents.
+    pub fn enter(&mut self, call: Call<'a>, answer: Answer, power: bool) -> Result<(), AllocError>
+        ensures { IfOk result (λ _. (length self.new.rows.items ≡ length self.old.rows.items) × ((b : ℕ) → b < length self.old.rows.items → row self.new.rows.items b ≡ row self.old.rows.items b ++ added (call_of call) answer power b)) }
+    {
+        let carried_out = match answer {
+            Ok(_) => true,
+            Err(error) => error == CommandError::PowerOff && power,
+        };
+        let Call::Command { cdb, data_out, .. } = call else {
+            return Ok(());
+        };
+        match decode(cdb, data_out) {
+            Ok(Command::Write { extent, data, .. }) if carried_out => {
+                self.add_blocks(extent.address, extent.length, data)
+            }
+            _ => Ok(()),
+        }
+    }
+}
