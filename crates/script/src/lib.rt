@@ -5,6 +5,6 @@ mod data;
 mod digits;
 mod words;
 
-pub use data::MOST_BYTES;
+pub use data::{MOST_BYTES, data_bytes};
 pub use digits::{hex_byte, hex_bytes, hex_digit, number, number_between};
 pub use words::next_word;
