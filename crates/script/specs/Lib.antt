@@ -1,3 +1,4 @@
 pub mod Data
 pub mod Digits
+pub mod Lines
 pub mod Words

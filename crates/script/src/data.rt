@@ -11,12 +11,7 @@ use std::alloc::{AllocError, Global};
 pub const MOST_BYTES: u32 = 33_553_920;
 
 // A byte in two hex digits, so many times.
-fn repeated(
-    heap: Global,
-    high: u8,
-    low: u8,
-    count: &[u8],
-) -> Result<Option<Vec<u8>>, AllocError>
+fn repeated(heap: Global, high: u8, low: u8, count: &[u8]) -> Result<Option<Vec<u8>>, AllocError>
     ensures { IfOk result (λ found. option_map (λ v. v.items) found ≡ repeated high low count.now) }
 {
     let Some(byte) = hex_byte(high, low) else {

@@ -3,8 +3,12 @@
 
 mod data;
 mod digits;
+mod error;
+mod line;
 mod words;
 
 pub use data::{MOST_BYTES, data_bytes};
 pub use digits::{hex_byte, hex_bytes, hex_digit, number, number_between};
+pub use error::{Expected, LineError};
+pub use line::{CommandLine, Line, parse_line};
 pub use words::next_word;

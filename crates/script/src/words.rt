@@ -14,7 +14,9 @@ fn unindented(line: &[u8]) -> &[u8]
     ensures { result.now ≡ unindented line.now }
 {
     let mut rest = line;
-    while let [first, others @ ..] = rest && is_blank(*first) {
+    while let [first, others @ ..] = rest
+        && is_blank(*first)
+    {
         rest = others;
     }
     rest

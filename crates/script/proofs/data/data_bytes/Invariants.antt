@@ -6,8 +6,8 @@ use Rattle.script.proofs.data.data_bytes.Given as goal
 
 abbrev pub invariant-loop-rest : goal.invariant-loop-rest
 invariant-loop-rest l = record {
-    same : option_map (λ bytes. l.data.items ++ bytes) (joined (remaining (option_copied l.rest))) ≡ joined (slice_split is_plus l.word);
-    fits : length l.data.items ≤ 33553920
+  same : option_map (λ bytes. l.data.items ++ bytes) (joined (remaining (option_copied l.rest))) ≡ joined (slice_split is_plus l.word);
+  fits : length l.data.items ≤ 33553920;
 }
 
 abbrev pub decreases-loop-rest : goal.decreases-loop-rest
