@@ -1,6 +1,6 @@
 -- The data of a word: parts joined by `+`, each in hex digits or a repeated byte.
-use Rattle.std.specs.Prelude.{ℕ, Bool, ◌==◌, if◌then◌else◌, nat_le, List, [], ◌∷◌, ◌++◌, length, replicate, Option, Some, None}
-use Rattle.std.specs.List.{slice_split}
+use Rattle.std.specs.Prelude.{ℕ, ◌==◌, if◌then◌else◌, nat_le, List, [], ◌∷◌, ◌++◌, length, replicate, Option, Some, None}
+use Rattle.script.specs.Parts.{parts}
 use Rattle.script.specs.Digits.{◌>>=◌, number_between, hex_byte, hex_bytes}
 
 -- 65535 blocks of 512 bytes
@@ -32,13 +32,5 @@ abbrev pub at_most : ℕ → List ℕ → Option (List ℕ)
 at_most n bytes = if nat_le (length bytes) n then Some bytes else None
 
 -- `+` is 43
-abbrev pub is_plus : ℕ → Bool
-is_plus b = b == 43
-
--- the parts of what is left of a word, if anything is
-abbrev pub remaining : Option (List ℕ) → List (List ℕ)
-remaining None = []
-remaining (Some word) = slice_split is_plus word
-
 abbrev pub data_bytes : List ℕ → Option (List ℕ)
-data_bytes word = joined (slice_split is_plus word) >>= at_most most_bytes
+data_bytes word = joined (parts 43 word) >>= at_most most_bytes

@@ -1,4 +1,5 @@
 pub mod Data
 pub mod Digits
 pub mod Lines
+pub mod Parts
 pub mod Words

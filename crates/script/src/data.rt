@@ -1,10 +1,10 @@
 // The bytes that a word stands for.
-ghost use Rattle.std.specs.Prelude.{◌≡◌, ◌∷◌, IfOk};
-ghost use Rattle.std.specs.Option.{option_map, option_copied};
-ghost use Rattle.std.specs.List.{position, slice_split};
-ghost use Rattle.script.specs.Data.{part, repeated, is_plus, remaining, data_bytes};
+ghost use Rattle.std.specs.Prelude.{◌≡◌, IfOk};
+ghost use Rattle.std.specs.Option.{option_map};
+ghost use Rattle.script.specs.Data.{part, repeated, data_bytes};
 
 use crate::digits::{hex_byte, hex_bytes, number_between};
+use crate::parts::first_part;
 use std::alloc::{AllocError, Global};
 
 // 65535 blocks of 512 bytes
@@ -33,22 +33,6 @@ fn part(heap: Global, text: &[u8]) -> Result<Option<Vec<u8>>, AllocError>
     }
 }
 
-fn first_plus(word: &[u8]) -> Option<usize>
-    ensures { result ≡ position is_plus word.now }
-{
-    word.iter().position(|byte| *byte == b'+')
-}
-
-// The part before the first `+`, and what follows the `+`, if there is one.
-fn first_part(word: &[u8]) -> (&[u8], Option<&[u8]>)
-    ensures { slice_split is_plus word.now ≡ result.0.now ∷ remaining (option_copied result.1) }
-{
-    match first_plus(word) {
-        Some(place) => (&word[..place], Some(&word[place + 1..])),
-        None => (word, None),
-    }
-}
-
 // The bytes of a word's parts, one after another; none if a part is malformed or there are too many bytes.
 pub fn data_bytes(heap: Global, word: &[u8]) -> Result<Option<Vec<u8>>, AllocError>
     ensures { IfOk result (λ found. option_map (λ v. v.items) found ≡ data_bytes word.now) }
@@ -56,7 +40,7 @@ pub fn data_bytes(heap: Global, word: &[u8]) -> Result<Option<Vec<u8>>, AllocErr
     let mut data = Vec::new(heap);
     let mut rest = Some(word);
     while let Some(text) = rest {
-        let (first, others) = first_part(text);
+        let (first, others) = first_part(text, b'+');
         let Some(bytes) = part(heap, first)? else {
             return Ok(None);
         };

@@ -5,6 +5,7 @@ mod data;
 mod digits;
 mod error;
 mod line;
+mod parts;
 mod words;
 
 pub use data::{MOST_BYTES, data_bytes};
