@@ -1,5 +1,5 @@
 -- The lines of a script, one after another.
-use Rattle.std.proofs.Common.{◌≡◌, ℕ, List, ◌++◌, Ok, Err}
+use Rattle.std.proofs.Common.{List, ◌++◌, Ok, Err}
 use Rattle.std.specs.Prelude.{Result}
 use Rattle.script.specs.Lines.{Asked}
 use Rattle.script.specs.Script.{Malformed}

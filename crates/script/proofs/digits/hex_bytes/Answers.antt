@@ -1,4 +1,4 @@
-use Rattle.std.proofs.Common.{arith, sym, ◌∙◌}
+use Rattle.std.proofs.Common.{sym}
 use Rattle.script.proofs.Numbers.{pair}
 use Rattle.script.proofs.digits.hex_bytes.Goals as goal
 

@@ -1,4 +1,4 @@
-use Rattle.std.proofs.Common.{length, ap, ◌∙◌, rules, arith}
+use Rattle.std.proofs.Common.{length, ap, ◌∙◌}
 use Rattle.std.specs.Prelude.{unwrap_or}
 use Rattle.script.specs.Words.{is_blank}
 use Rattle.script.proofs.FirstPlaces.{place_le, place_or_end}
