@@ -1,5 +1,5 @@
 // Numbers in decimal digits, and bytes in hex digits.
-ghost use Rattle.std.specs.Prelude.{◌≡◌, ◌<◌, IfOk};
+ghost use Rattle.std.specs.Prelude.{◌≡◌, ◌≤◌, IfOk, IfSome};
 ghost use Rattle.std.specs.Option.{option_map};
 ghost use Rattle.script.specs.Digits.{digit, hex_byte, hex_bytes, number_between};
 
@@ -30,7 +30,8 @@ pub fn number(word: &[u8]) -> Option<u32>
 
 // A decimal number from least to most.
 pub fn number_between(word: &[u8], least: u32, most: u32) -> Option<u32>
-    ensures { result ≡ number_between least most word.now }
+    ensures value { result ≡ number_between least most word.now }
+    ensures bounds { IfSome result (λ n. (least ≤ n) × (n ≤ most)) }
 {
     let value = number(word)?;
     (least <= value && value <= most).then_some(value)

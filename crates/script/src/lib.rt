@@ -15,5 +15,6 @@ pub use data::{MOST_BYTES, data_bytes};
 pub use digits::{hex_byte, hex_bytes, hex_digit, number, number_between};
 pub use error::{Expected, LineError};
 pub use line::{CommandLine, Line, parse_line};
+pub use parts::first_part;
 pub use script_text::{ScriptError, parse_script};
 pub use words::next_word;
