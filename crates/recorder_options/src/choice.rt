@@ -15,6 +15,7 @@ use crate::order::{Order, order_of};
 use std::alloc::Global;
 
 const BLOCKS: u32 = 10;
+
 const GRANT: u32 = 1_000_000;
 
 fn options_of(order: Order, given: Given) -> Result<Options, OptionsError>
