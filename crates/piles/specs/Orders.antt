@@ -12,8 +12,8 @@ use Rattle.table_cache.specs.Table.{table_kind}
 use Rattle.queue_cache.specs.Queue.{queue_kind}
 use Rattle.piles.specs.declared.bottom.Bottom.{Bottom}
 use Rattle.piles.specs.declared.bottom.Bottom.TheVariants.{Flat, Card}
-use Rattle.piles.specs.declared.order.Layer.{Layer}
-use Rattle.piles.specs.declared.order.Layer.TheVariants.{Table, Queue}
+use Rattle.recorder_options.specs.declared.kinds.CacheKind.{CacheKind as Kind}
+use Rattle.recorder_options.specs.declared.kinds.CacheKind.TheVariants.{Table, Queue}
 
 -- a store by its steps and its meaning, and the state that it starts in
 pub record Start : Type 1 where
@@ -31,10 +31,10 @@ under_cache kind below =
     start (cache_steps kind below.steps) (cache_meaning kind below.meaning) (holding kind.empty below.state)
 
 -- empty caches, from the bottom up
-abbrev pub under_caches : List Layer → Start → Start
+abbrev pub under_caches : List Kind → Start → Start
 under_caches [] below = below
-under_caches (Table ∷ layers) below = under_caches layers (under_cache table_kind below)
-under_caches (Queue ∷ layers) below = under_caches layers (under_cache queue_kind below)
+under_caches (Table ∷ caches) below = under_caches caches (under_cache table_kind below)
+under_caches (Queue ∷ caches) below = under_caches caches (under_cache queue_kind below)
 
 abbrev pub bottom : Bottom → Start
 bottom (Flat m) = start (medium_steps flat) (medium_meaning flat) (flat_model m.layout m.count m.grant)

@@ -8,5 +8,5 @@ mod pile;
 
 pub use bottom::Bottom;
 pub use made::{MediumError, MediumKind, new_medium};
-pub use order::{Layer, PileError, Task, with_pile};
+pub use order::{PileError, Task, with_pile};
 pub use pile::{Parts, Pile};

@@ -10,17 +10,11 @@ ghost use Rattle.piles.specs.Orders.{start, bottom, under_caches};
 use crate::bottom::Bottom;
 use crate::pile::Pile;
 use queue_cache::QueueCache;
+use recorder_options::CacheKind;
 use std::alloc::{AllocError, Global};
 use store::Store;
 use table_cache::TableCache;
 use thiserror::Error;
-
-// A cache of a pile, by its kind.
-#[derive(Clone, Copy, PartialEq, Eq, Debug)]
-pub enum Layer {
-    Table,
-    Queue,
-}
 
 // Why a pile is not made.
 #[derive(Clone, Copy, PartialEq, Eq, Debug, Error)]
@@ -52,76 +46,76 @@ pub trait Task {
 pub fn with_pile<T: Task + Drop>(
     heap: Global,
     medium: Bottom,
-    layers: &[Layer],
+    caches: &[CacheKind],
     task: T,
 ) -> Result<T::Output, PileError>
-    ensures { IfOk result (λ output. let p = under_caches layers.now (bottom medium) in T.gives task p.steps p.meaning p.state output) }
+    ensures { IfOk result (λ output. let p = under_caches caches.now (bottom medium) in T.gives task p.steps p.meaning p.state output) }
 {
     match medium {
-        Bottom::Flat(medium) => under_three(heap, medium, layers, task),
-        Bottom::Card(card) => under_three(heap, card, layers, task),
+        Bottom::Flat(medium) => under_three(heap, medium, caches, task),
+        Bottom::Card(card) => under_three(heap, card, caches, task),
     }
 }
 
 fn under_three<S: Pile, T: Task + Drop>(
     heap: Global,
     pile: S,
-    layers: &[Layer],
+    caches: &[CacheKind],
     task: T,
 ) -> Result<T::Output, PileError>
-    ensures { IfOk result (λ output. let p = under_caches layers.now (start S.Store.steps S.Store.meaning (S.Store.model pile)) in T.gives task p.steps p.meaning p.state output) }
+    ensures { IfOk result (λ output. let p = under_caches caches.now (start S.Store.steps S.Store.meaning (S.Store.model pile)) in T.gives task p.steps p.meaning p.state output) }
 {
-    let Some((layer, rest)) = layers.split_first() else {
+    let Some((cache, rest)) = caches.split_first() else {
         return Ok(task.run(pile));
     };
-    match layer {
-        Layer::Table => under_two(heap, table_over(heap, pile)?, rest, task),
-        Layer::Queue => under_two(heap, queue_over(heap, pile)?, rest, task),
+    match cache {
+        CacheKind::Table => under_two(heap, table_over(heap, pile)?, rest, task),
+        CacheKind::Queue => under_two(heap, queue_over(heap, pile)?, rest, task),
     }
 }
 
 fn under_two<S: Pile, T: Task + Drop>(
     heap: Global,
     pile: S,
-    layers: &[Layer],
+    caches: &[CacheKind],
     task: T,
 ) -> Result<T::Output, PileError>
-    ensures { IfOk result (λ output. let p = under_caches layers.now (start S.Store.steps S.Store.meaning (S.Store.model pile)) in T.gives task p.steps p.meaning p.state output) }
+    ensures { IfOk result (λ output. let p = under_caches caches.now (start S.Store.steps S.Store.meaning (S.Store.model pile)) in T.gives task p.steps p.meaning p.state output) }
 {
-    let Some((layer, rest)) = layers.split_first() else {
+    let Some((cache, rest)) = caches.split_first() else {
         return Ok(task.run(pile));
     };
-    match layer {
-        Layer::Table => under_one(heap, table_over(heap, pile)?, rest, task),
-        Layer::Queue => under_one(heap, queue_over(heap, pile)?, rest, task),
+    match cache {
+        CacheKind::Table => under_one(heap, table_over(heap, pile)?, rest, task),
+        CacheKind::Queue => under_one(heap, queue_over(heap, pile)?, rest, task),
     }
 }
 
 fn under_one<S: Pile, T: Task + Drop>(
     heap: Global,
     pile: S,
-    layers: &[Layer],
+    caches: &[CacheKind],
     task: T,
 ) -> Result<T::Output, PileError>
-    ensures { IfOk result (λ output. let p = under_caches layers.now (start S.Store.steps S.Store.meaning (S.Store.model pile)) in T.gives task p.steps p.meaning p.state output) }
+    ensures { IfOk result (λ output. let p = under_caches caches.now (start S.Store.steps S.Store.meaning (S.Store.model pile)) in T.gives task p.steps p.meaning p.state output) }
 {
-    let Some((layer, rest)) = layers.split_first() else {
+    let Some((cache, rest)) = caches.split_first() else {
         return Ok(task.run(pile));
     };
-    match layer {
-        Layer::Table => under_none(table_over(heap, pile)?, rest, task),
-        Layer::Queue => under_none(queue_over(heap, pile)?, rest, task),
+    match cache {
+        CacheKind::Table => under_none(table_over(heap, pile)?, rest, task),
+        CacheKind::Queue => under_none(queue_over(heap, pile)?, rest, task),
     }
 }
 
 fn under_none<S: Pile, T: Task + Drop>(
     pile: S,
-    layers: &[Layer],
+    caches: &[CacheKind],
     task: T,
 ) -> Result<T::Output, PileError>
-    ensures { IfOk result (λ output. let p = under_caches layers.now (start S.Store.steps S.Store.meaning (S.Store.model pile)) in T.gives task p.steps p.meaning p.state output) }
+    ensures { IfOk result (λ output. let p = under_caches caches.now (start S.Store.steps S.Store.meaning (S.Store.model pile)) in T.gives task p.steps p.meaning p.state output) }
 {
-    if layers.is_empty() {
+    if caches.is_empty() {
         Ok(task.run(pile))
     } else {
         Err(PileError::TooManyCaches)

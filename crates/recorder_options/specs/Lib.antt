@@ -1,0 +1,5 @@
+pub mod Choice
+pub mod Faults
+pub mod Given
+pub mod Names
+pub mod Order

@@ -1,0 +1,16 @@
+// What the words of the recorder's command line ask for.
+#![tactic(auto)]
+
+mod choice;
+mod error;
+mod given;
+mod kinds;
+mod options;
+mod order;
+#[cfg(test)]
+mod tests;
+
+pub use choice::parse;
+pub use error::{Expected, OptionsError};
+pub use kinds::{CacheKind, Medium, Mode, Name, Setting, cache_named, medium_named, option_named};
+pub use options::{Asked, Options};

@@ -1,0 +1,20 @@
+// Scripts of calls: what each line asks for.
+#![tactic(auto)]
+
+mod data;
+mod digits;
+mod error;
+mod line;
+mod parts;
+mod script_text;
+#[cfg(test)]
+mod tests;
+mod words;
+
+pub use data::{MOST_BYTES, data_bytes};
+pub use digits::{hex_byte, hex_bytes, hex_digit, number, number_between};
+pub use error::{Expected, LineError};
+pub use line::{CommandLine, Line, parse_line};
+pub use parts::first_part;
+pub use script_text::{ScriptError, parse_script};
+pub use words::next_word;
