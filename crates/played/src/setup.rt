@@ -1,0 +1,49 @@
+// A run as the command line asks for it.
+use crate::run::{Run, play_over};
+use piles::{MediumError, MediumKind, PileError, new_medium};
+use recorder_options::{Medium, Options};
+use session::Call;
+use std::alloc::Global;
+use thiserror::Error;
+
+// Why calls are not played.
+#[derive(Clone, Copy, PartialEq, Eq, Debug, Error)]
+pub enum PlayError {
+    #[error("{0}")]
+    Medium(MediumError),
+    #[error("{0}")]
+    Pile(PileError),
+}
+
+impl From<MediumError> for PlayError {
+    fn from(error: MediumError) -> PlayError {
+        PlayError::Medium(error)
+    }
+}
+
+impl From<PileError> for PlayError {
+    fn from(error: PileError) -> PlayError {
+        PlayError::Pile(error)
+    }
+}
+
+// The medium's kind.
+pub fn medium_kind(options: &Options) -> MediumKind {
+    match options.medium {
+        Medium::Flat => MediumKind::Flat,
+        Medium::Card => MediumKind::Card {
+            pages: options.pages,
+        },
+    }
+}
+
+// The calls on a new module over a new pile, with this grant of block stores.
+pub fn play_with(
+    heap: Global,
+    options: &Options,
+    grant: u32,
+    calls: &[Call<'_>],
+) -> Result<Run, PlayError> {
+    let medium = new_medium(heap, medium_kind(options), options.blocks, grant)?;
+    Ok(play_over(heap, medium, &options.caches, calls)?)
+}
