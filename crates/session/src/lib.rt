@@ -38,7 +38,8 @@ pub struct Session<S: Store> {
     pub replies: Vec<Reply>,
 }
 
-fn reply_to<S: Store>(
+// One call, and its reply.
+pub fn reply_to<S: Store>(
     heap: Global,
     module: &mut Module<S>,
     call: &Call<'_>,

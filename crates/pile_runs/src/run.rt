@@ -2,7 +2,7 @@
 ghost use Rattle.std.specs.Prelude.{◌≡◌, IfOk, map};
 ghost use Rattle.session.specs.Sessions.{call_of};
 ghost use Rattle.piles.specs.Orders.{bottom, under_caches};
-ghost use Rattle.played.specs.Runs.{RunOf};
+ghost use Rattle.pile_runs.specs.Runs.{RunOf};
 
 use piles::{Bottom, Parts, Pile, PileError, Task, with_pile};
 use recorder_options::CacheKind;

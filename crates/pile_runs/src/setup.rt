@@ -1,4 +1,8 @@
 // A run as the command line asks for it.
+ghost use Rattle.std.specs.Prelude.{◌≡◌, IfOk, map};
+ghost use Rattle.session.specs.Sessions.{call_of};
+ghost use Rattle.pile_runs.specs.Setups.{kind_of, RunWith};
+
 use crate::run::{Run, play_over};
 use piles::{MediumError, MediumKind, PileError, new_medium};
 use recorder_options::{Medium, Options};
@@ -28,7 +32,9 @@ impl From<PileError> for PlayError {
 }
 
 // The medium's kind.
-pub fn medium_kind(options: &Options) -> MediumKind {
+pub fn medium_kind(options: &Options) -> MediumKind
+    ensures { result ≡ kind_of options.now.medium options.now.pages }
+{
     match options.medium {
         Medium::Flat => MediumKind::Flat,
         Medium::Card => MediumKind::Card {
@@ -43,7 +49,9 @@ pub fn play_with(
     options: &Options,
     grant: u32,
     calls: &[Call<'_>],
-) -> Result<Run, PlayError> {
+) -> Result<Run, PlayError>
+    ensures { IfOk result (RunWith options.now grant (map call_of calls.now)) }
+{
     let medium = new_medium(heap, medium_kind(options), options.blocks, grant)?;
     Ok(play_over(heap, medium, &options.caches, calls)?)
 }

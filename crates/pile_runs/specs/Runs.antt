@@ -8,7 +8,7 @@ use Rattle.run_law.specs.Runs.{run, meaning_at}
 use Rattle.run_law.specs.Law.{Safe}
 use Rattle.session.specs.Sessions.{told_of, told_by}
 use Rattle.piles.specs.Bottoms.{granted, Stands}
-use Rattle.played.specs.declared.run.Run.{Run}
+use Rattle.pile_runs.specs.declared.run.Run.{Run}
 
 module _ {M : Type 0} (steps : Steps M) (meaning : M → Meaning) (m : M) (calls : List Call) where
   -- what the store means when the making is over, and at the end of the calls

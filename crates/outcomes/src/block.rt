@@ -1,0 +1,60 @@
+// A block that was written, and what is found there.
+use crate::hex::Hex;
+use book::{Book, Numbers};
+use piles::Bottom;
+use std::alloc::{AllocError, Global};
+use std::fmt;
+use store::BLOCK_BYTES;
+
+// so many bytes of a block are shown
+const SHOWN: usize = 16;
+
+// what a block of a new medium shows
+const NEW: [u8; BLOCK_BYTES] = [0; BLOCK_BYTES];
+
+#[derive(Clone, Copy)]
+pub struct FoundBlock {
+    pub block: u32,
+    pub content: [u8; BLOCK_BYTES],
+    pub numbers: Numbers,
+}
+
+impl FoundBlock {
+    // The blocks with contents in the book, as they are found on the medium at the next power-on.
+    pub fn all(
+        heap: Global,
+        medium: Bottom,
+        book: &Book<'_>,
+    ) -> Result<Vec<FoundBlock>, AllocError> {
+        let mut found = Vec::new(heap);
+        let mut medium = medium.reopened();
+        for block in 0..medium.count() {
+            let row = book.row(block);
+            if let (false, Ok(content)) = (row.is_empty(), medium.read(block)) {
+                let numbers = Numbers::of(row, &content);
+                found.push(FoundBlock {
+                    block,
+                    content,
+                    numbers,
+                })?;
+            }
+        }
+        Ok(found)
+    }
+
+    // Is the content another than the one that the block began with?
+    pub fn is_changed(&self) -> bool {
+        self.content != NEW
+    }
+}
+
+impl fmt::Display for FoundBlock {
+    fn fmt<W: fmt::Write>(&self, f: &mut fmt::Formatter<W>) -> fmt::Result {
+        let FoundBlock {
+            block,
+            content,
+            numbers,
+        } = self;
+        write!(f, "block {block} {} {numbers}", Hex(&content[..SHOWN]))
+    }
+}

@@ -1,0 +1,91 @@
+// What a run left, to be told in lines: the replies, the block stores made, what is held, and what is found on the medium.
+use crate::block::FoundBlock;
+use crate::line::ReplyLine;
+use crate::totals::Totals;
+use book::Book;
+use pile_runs::Run;
+use sense::CommandError;
+use session::{Call, Reply};
+use std::alloc::{AllocError, Global};
+use std::fmt;
+
+#[derive(Drop)]
+pub struct Outcome {
+    pub replies: Vec<Reply>,
+    pub totals: Totals,
+    // the blocks that were written, in rising order
+    pub blocks: Vec<FoundBlock>,
+}
+
+impl Outcome {
+    // What the run of these calls left, with this grant of block stores.
+    pub fn of(
+        heap: Global,
+        grant: u32,
+        calls: &[Call<'_>],
+        run: Run,
+    ) -> Result<Outcome, AllocError> {
+        let Run {
+            replies,
+            pending,
+            bottom,
+        } = run;
+        let totals = Totals::of(grant, pending, &bottom);
+        let book = book_of(heap, bottom.count(), grant, calls, &replies)?;
+        let blocks = FoundBlock::all(heap, bottom, &book)?;
+        Ok(Outcome {
+            replies,
+            totals,
+            blocks,
+        })
+    }
+}
+
+// The rows of contents that the calls wrote, each answered so, with this grant of block stores.
+fn book_of<'a>(
+    heap: Global,
+    blocks: u32,
+    grant: u32,
+    calls: &[Call<'a>],
+    replies: &[Reply],
+) -> Result<Book<'a>, AllocError> {
+    let mut book = Book::new(heap, blocks)?;
+    let mut power = grant > 0;
+    for (call, reply) in calls.iter().zip(replies) {
+        book.enter(*call, reply.answer, power)?;
+        power = power && reply.answer != Err(CommandError::PowerOff);
+    }
+    Ok(book)
+}
+
+// The lines after the replies.
+#[derive(Clone, Copy)]
+pub struct Closing<'a>(&'a Outcome);
+
+impl Outcome {
+    pub fn closing(&self) -> Closing<'_> {
+        Closing(self)
+    }
+}
+
+impl fmt::Display for Closing<'_> {
+    fn fmt<W: fmt::Write>(&self, f: &mut fmt::Formatter<W>) -> fmt::Result {
+        let Closing(outcome) = *self;
+        writeln!(f, "{}", outcome.totals)?;
+        for block in &outcome.blocks {
+            if block.is_changed() {
+                writeln!(f, "{block}")?;
+            }
+        }
+        Ok(())
+    }
+}
+
+impl fmt::Display for Outcome {
+    fn fmt<W: fmt::Write>(&self, f: &mut fmt::Formatter<W>) -> fmt::Result {
+        for reply in &self.replies {
+            writeln!(f, "{}", ReplyLine::of(reply))?;
+        }
+        write!(f, "{}", self.closing())
+    }
+}

@@ -1,0 +1,3 @@
+pub mod Runs
+pub mod Scripts
+pub mod Setups

@@ -1,0 +1,10 @@
+// Scripts played on a new module over a pile of any order.
+#![tactic(auto)]
+
+mod calls;
+mod run;
+mod setup;
+
+pub use calls::{FILL, calls_of, data_in_for};
+pub use run::{Run, play_over};
+pub use setup::{PlayError, medium_kind, play_with};
