@@ -1,6 +1,6 @@
 // The numbers of a block's contents.
 ghost use Rattle.std.specs.Prelude.{◌≡◌, map, length};
-ghost use Rattle.book.specs.Numbers.{newest_equal};
+ghost use Rattle.book.specs.Numbers.{newest_equal, Newest};
 
 use std::fmt;
 
@@ -15,7 +15,8 @@ pub struct Numbers {
 impl Numbers {
     // The numbers of a content that is found, in a block's row.
     pub fn of(row: &[&[u8]], found: &[u8]) -> Numbers
-        ensures found { result.found ≡ newest_equal found.now 0 0 (map (λ x. x.now) row.now) }
+        ensures found { result.found ≡ newest_equal found.now (map (λ x. x.now) row.now) }
+        ensures newest { Newest found.now (map (λ x. x.now) row.now) result.found }
         ensures latest { result.latest ≡ length row.now }
     {
         let mut newest = 0;

@@ -1,11 +1,12 @@
 // The rows of a book.
-ghost use Rattle.std.specs.Prelude.{◌≡◌, ℕ, ◌<◌, [], ◌++◌, map, IfOk, length};
-ghost use Rattle.rbc_steps.specs.Writes.{added, added_to};
+ghost use Rattle.std.specs.Prelude.{◌≡◌, ℕ, [], map, IfOk, OnOk, length};
+ghost use Rattle.rbc_steps.specs.Writes.{carried_out, piece, added, added_to};
 ghost use Rattle.session.specs.Sessions.{call_of};
-ghost use Rattle.book.specs.Rows.{row, with_content};
+ghost use Rattle.book.specs.Rows.{row, at_block, Grown};
 
 use cdb::decode;
 use commands::Command;
+use host_data::{Extent, front};
 use sense::{Answer, CommandError};
 use session::Call;
 use std::alloc::{AllocError, Global};
@@ -14,6 +15,25 @@ use store::BLOCK_BYTES;
 #[derive(Drop)]
 pub struct Book<'a> {
     rows: Vec<Vec<&'a [u8]>>,
+}
+
+// A call that was not refused: it is good, or lost power on the way.
+fn carried_out(answer: Answer, power: bool) -> bool
+    ensures { result ≡ carried_out answer power }
+{
+    match answer {
+        Ok(_) => true,
+        Err(CommandError::PowerOff) => power,
+        Err(_) => false,
+    }
+}
+
+// Block i of the bytes that a host sends.
+fn piece(bytes: &[u8], i: u16) -> &[u8]
+    ensures { result.now ≡ piece bytes.now i }
+{
+    let start = bytes.len().min(BLOCK_BYTES * usize::from(i));
+    front(&bytes[start..], BLOCK_BYTES)
 }
 
 impl<'a> Book<'a> {
@@ -32,15 +52,15 @@ impl<'a> Book<'a> {
     pub fn row(&self, block: u32) -> &[&'a [u8]]
         ensures { map (λ x. x.now) result.now ≡ row self.now.rows.items block }
     {
-        match self.rows.get(block as usize) {
-            Some(row) => row,
-            None => &[],
-        }
+        self.rows
+            .get(block as usize)
+            .map(Vec::as_slice)
+            .unwrap_or_default()
     }
 
     // A content written to a block, if there is a row for it.
     fn add(&mut self, block: usize, content: &'a [u8]) -> Result<(), AllocError>
-        ensures { IfOk result (λ _. (length self.new.rows.items ≡ length self.old.rows.items) × ((b : ℕ) → b < length self.old.rows.items → row self.new.rows.items b ≡ with_content (row self.old.rows.items b) block content.now b)) }
+        ensures { OnOk result (Grown self.old.rows.items self.new.rows.items (at_block block content.now)) }
     {
         match self.rows.get_mut(block) {
             Some(row) => Ok(row.push(content)?),
@@ -49,30 +69,27 @@ impl<'a> Book<'a> {
     }
 
     // What a WRITE writes, block by block.
-    fn add_blocks(&mut self, address: u32, count: u16, bytes: &'a [u8]) -> Result<(), AllocError>
-        ensures { IfOk result (λ _. (length self.new.rows.items ≡ length self.old.rows.items) × ((b : ℕ) → b < length self.old.rows.items → row self.new.rows.items b ≡ row self.old.rows.items b ++ added_to b address count bytes.now)) }
+    fn add_blocks(&mut self, extent: Extent, bytes: &'a [u8]) -> Result<(), AllocError>
+        ensures { OnOk result (Grown self.old.rows.items self.new.rows.items (λ b. added_to b extent.address extent.length bytes.now)) }
     {
-        for (i, content) in bytes.chunks_exact(BLOCK_BYTES).take(usize::from(count)).enumerate() {
-            self.add(address as usize + i, content)?;
+        for i in 0..extent.length {
+            self.add(extent.address as usize + usize::from(i), piece(bytes, i))?;
         }
         Ok(())
     }
 
     // A call with its answer: a WRITE that was not refused adds its contents.
     pub fn enter(&mut self, call: Call<'a>, answer: Answer, power: bool) -> Result<(), AllocError>
-        ensures { IfOk result (λ _. (length self.new.rows.items ≡ length self.old.rows.items) × ((b : ℕ) → b < length self.old.rows.items → row self.new.rows.items b ≡ row self.old.rows.items b ++ added (call_of call) answer power b)) }
+        ensures { OnOk result (Grown self.old.rows.items self.new.rows.items (added (call_of call.entry) answer power)) }
     {
-        let carried_out = match answer {
-            Ok(_) => true,
-            Err(error) => error == CommandError::PowerOff && power,
-        };
+        if !carried_out(answer, power) {
+            return Ok(());
+        }
         let Call::Command { cdb, data_out, .. } = call else {
             return Ok(());
         };
         match decode(cdb, data_out) {
-            Ok(Command::Write { extent, data, .. }) if carried_out => {
-                self.add_blocks(extent.address, extent.length, data)
-            }
+            Ok(Command::Write { extent, data, .. }) => self.add_blocks(extent, data),
             _ => Ok(()),
         }
     }
