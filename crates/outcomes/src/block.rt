@@ -1,4 +1,11 @@
 // A block that was written, and what is found there.
+ghost use Rattle.std.specs.Prelude.{◌≡◌, IfOk, map, replicate, not};
+ghost use Rattle.std.specs.Str.{bytes_eq};
+ghost use Rattle.piles.specs.Bottoms.{bottom_meaning, counted};
+ghost use Rattle.book.specs.Rows.{row};
+ghost use Rattle.outcomes.specs.Found.{found_below};
+ghost use Rattle.outcomes.specs.Views.{found_view};
+
 use crate::hex::Hex;
 use book::{Book, Numbers};
 use piles::Bottom;
@@ -25,7 +32,9 @@ impl FoundBlock {
         heap: Global,
         medium: Bottom,
         book: &Book<'_>,
-    ) -> Result<Vec<FoundBlock>, AllocError> {
+    ) -> Result<Vec<FoundBlock>, AllocError>
+        ensures { IfOk result (λ found. map found_view found.items ≡ found_below (λ b. ((bottom_meaning medium).line b).first) (row book.now.rows.items) (counted medium)) }
+    {
         let mut found = Vec::new(heap);
         let mut medium = medium.reopened();
         for block in 0..medium.count() {
@@ -43,7 +52,9 @@ impl FoundBlock {
     }
 
     // Is the content another than the one that the block began with?
-    pub fn is_changed(&self) -> bool {
+    pub fn is_changed(&self) -> bool
+        ensures { result ≡ not (bytes_eq self.now.content (replicate 512 0)) }
+    {
         self.content != NEW
     }
 }

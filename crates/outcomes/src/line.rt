@@ -1,4 +1,6 @@
 // A reply in one line.
+ghost use Rattle.std.specs.Prelude.{◌≡◌};
+
 use crate::hex::Hex;
 use sense::{Answer, Report};
 use session::Reply;
@@ -12,7 +14,9 @@ pub struct ReplyLine<'a> {
 }
 
 impl<'a> ReplyLine<'a> {
-    pub fn of(reply: &'a Reply) -> ReplyLine<'a> {
+    pub fn of(reply: &'a Reply) -> ReplyLine<'a>
+        ensures { (result.answer ≡ reply.now.answer) × (result.bytes.now ≡ reply.now.«data».items) }
+    {
         ReplyLine {
             answer: reply.answer,
             bytes: &reply.data,

@@ -1,4 +1,12 @@
 // What a run left, to be told in lines: the replies, the block stores made, what is held, and what is found on the medium.
+ghost use Rattle.std.specs.Prelude.{◌≡◌, ℕ, ◌<◌, [], IfOk, map, nat_lt, length};
+ghost use Rattle.session.specs.Sessions.{call_of};
+ghost use Rattle.piles.specs.Bottoms.{bottom_meaning, counted, granted};
+ghost use Rattle.book.specs.Rows.{row};
+ghost use Rattle.outcomes.specs.Found.{rows_after};
+ghost use Rattle.outcomes.specs.Totals.{totals};
+ghost use Rattle.outcomes.specs.Views.{OutcomeOf, answer_of_reply};
+
 use crate::block::FoundBlock;
 use crate::line::ReplyLine;
 use crate::totals::Totals;
@@ -24,7 +32,9 @@ impl Outcome {
         grant: u32,
         calls: &[Call<'_>],
         run: Run,
-    ) -> Result<Outcome, AllocError> {
+    ) -> Result<Outcome, AllocError>
+        ensures { IfOk result (OutcomeOf grant (map call_of calls.now) run) }
+    {
         let Run {
             replies,
             pending,
@@ -48,7 +58,9 @@ fn book_of<'a>(
     grant: u32,
     calls: &[Call<'a>],
     replies: &[Reply],
-) -> Result<Book<'a>, AllocError> {
+) -> Result<Book<'a>, AllocError>
+    ensures { IfOk result (λ book. (length book.rows.items ≡ blocks) × ((b : ℕ) → b < blocks → row book.rows.items b ≡ rows_after (λ _. []) (nat_lt 0 grant) (map call_of calls.now) (map answer_of_reply replies.now) b)) }
+{
     let mut book = Book::new(heap, blocks)?;
     let mut power = grant > 0;
     for (call, reply) in calls.iter().zip(replies) {
@@ -63,7 +75,9 @@ fn book_of<'a>(
 pub struct Closing<'a>(&'a Outcome);
 
 impl Outcome {
-    pub fn closing(&self) -> Closing<'_> {
+    pub fn closing(&self) -> Closing<'_>
+        ensures { result.0.now ≡ self.now }
+    {
         Closing(self)
     }
 }

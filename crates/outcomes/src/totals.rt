@@ -1,4 +1,8 @@
 // How many block stores were made, and what is held.
+ghost use Rattle.std.specs.Prelude.{◌≡◌};
+ghost use Rattle.piles.specs.Bottoms.{granted};
+ghost use Rattle.outcomes.specs.Totals.{totals};
+
 use piles::Bottom;
 use std::fmt;
 
@@ -12,7 +16,9 @@ pub struct Totals {
 
 impl Totals {
     // Of this grant, with so many contents in the caches.
-    pub fn of(grant: u32, pending: usize, medium: &Bottom) -> Totals {
+    pub fn of(grant: u32, pending: usize, medium: &Bottom) -> Totals
+        ensures { result ≡ totals grant (granted medium.now) pending }
+    {
         let left = medium.grant();
         let power = left > 0;
         Totals {

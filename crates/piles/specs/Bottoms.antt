@@ -42,6 +42,6 @@ Reopened m m' =
     let before = bottom_meaning m in
     bottom_meaning m' ≡ record { count = before.count; grant = 1; line = before.line }
 
--- what a read of a block with power on gives
-abbrev pub Shows : Bottom → ℕ → Answer Content → Type 0
-Shows m b r = 0 < granted m → b < counted m → r ≡ Ok ((bottom_meaning m).line b).first
+-- a read of a block, with power on, gives what stands there; the medium stays as it is
+abbrev pub Shows : Bottom → ℕ → Answer Content → Bottom → Type 0
+Shows m b r m' = (0 < granted m → b < counted m → r ≡ Ok ((bottom_meaning m).line b).first) × (bottom_meaning m' ≡ bottom_meaning m)

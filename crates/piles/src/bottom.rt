@@ -44,7 +44,7 @@ impl Bottom {
     }
     // What stands at the block, where power is on.
     pub fn read(&mut self, block: u32) -> Result<[u8; BLOCK_BYTES], StoreError>
-        ensures { Shows self.old block result }
+        ensures { Shows self.old block result self.new }
     {
         match self {
             Bottom::Flat(medium) => medium.read_block(block),

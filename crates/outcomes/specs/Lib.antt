@@ -1,0 +1,3 @@
+pub mod Found
+pub mod Totals
+pub mod Views
