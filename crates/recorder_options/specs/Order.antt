@@ -1,7 +1,7 @@
 -- ORDER: a medium, and the caches above it, joined by `+`.
-use Rattle.std.specs.Prelude.{◌≡◌, ℕ, List, [], ◌∷◌, length, nat_lt, if◌then◌else◌, Result, Ok, Err}
+use Rattle.std.specs.Prelude.{ℕ, List, [], ◌∷◌, length, nat_lt, if◌then◌else◌, Result, Ok, Err}
 use Rattle.script.specs.Parts.{parts}
-use Rattle.recorder_options.specs.Faults.{Fault, too_many_caches, ◌>>=◌, meant}
+use Rattle.recorder_options.specs.Faults.{Fault, ended, too_many_caches, ◌>>=◌, meant}
 use Rattle.recorder_options.specs.Names.{medium_named, cache_named}
 use Rattle.recorder_options.specs.declared.kinds.Medium.{Medium}
 use Rattle.recorder_options.specs.declared.kinds.CacheKind.{CacheKind}
@@ -27,7 +27,7 @@ abbrev pub at_most_three : List CacheKind → Result (List CacheKind) Fault
 at_most_three caches = if nat_lt 3 (length caches) then Err too_many_caches else Ok caches
 
 abbrev pub stack_of : List (List ℕ) → Result Stack Fault
-stack_of [] = Err too_many_caches
+stack_of [] = Err (ended expected.Order)
 stack_of (name ∷ names) = do
   medium ← meant expected.Medium name (medium_named name)
   caches ← caches_of names >>= at_most_three

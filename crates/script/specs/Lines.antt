@@ -39,13 +39,13 @@ abbrev pub ◌>>=◌ : {A B : Type 0} → Result A Fault → (A → Result B Fau
 (Ok x) >>= f = f x
 (Err e) >>= f = Err e
 
-abbrev pub there : Expected → Option (List ℕ × List ℕ) → Result (List ℕ × List ℕ) Fault
-there e None = Err (ended e)
-there e (Some w) = Ok w
+abbrev pub required : Expected → Option (List ℕ × List ℕ) → Result (List ℕ × List ℕ) Fault
+required e None = Err (ended e)
+required e (Some w) = Ok w
 
 -- the next word, and what follows it
 abbrev pub word_at : Expected → List ℕ → Result (List ℕ × List ℕ) Fault
-word_at e line = there e (next_word line)
+word_at e line = required e (next_word line)
 
 -- what a word stands for
 abbrev pub meant : {A : Type 0} → Expected → List ℕ → Option A → Result A Fault
@@ -59,13 +59,13 @@ field e read line = do
   a ← meant e word.0 (read word.0)
   Ok (a, word.1)
 
-abbrev pub named : {A : Type 0} → List ℕ → (List ℕ → Result (A × List ℕ) Fault) → A → List ℕ → Option (List ℕ × List ℕ) → Result (A × List ℕ) Fault
-named name read default line None = Ok (default, line)
-named name read default line (Some w) = if bytes_eq w.0 name then read w.1 else Ok (default, line)
+abbrev pub behind : {A : Type 0} → List ℕ → (List ℕ → Result (A × List ℕ) Fault) → A → List ℕ → Option (List ℕ × List ℕ) → Result (A × List ℕ) Fault
+behind name read default line None = Ok (default, line)
+behind name read default line (Some w) = if bytes_eq w.0 name then read w.1 else Ok (default, line)
 
 -- what follows the name, or the default where another word is next or none
 unfoldable pub option : {A : Type 0} → List ℕ → (List ℕ → Result (A × List ℕ) Fault) → A → List ℕ → Result (A × List ℕ) Fault
-option name read default line = named name read default line (next_word line)
+option name read default line = behind name read default line (next_word line)
 
 abbrev pub none_left : Expected → Option (List ℕ × List ℕ) → Result (Unit {0}) Fault
 none_left e None = Ok tt
