@@ -40,7 +40,7 @@ pub fn print_medium(
     exchanges: &[Exchange],
     card: FlashCard,
 ) -> anyhow::Result<()> {
-    let mut card = reopened(card);
+    let mut card = reopened(card)?;
     for block in 0..LOG_BLOCKS {
         let content = card.read_block(block)?;
         let numbers = Numbers::at(block, &content, exchanges);
