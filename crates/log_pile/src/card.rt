@@ -21,7 +21,7 @@ pub fn erased_card(heap: Global, grant: u32) -> Result<FlashCard, AllocError>
 // The card at the next power-on, to see what stands on it: its memory is as it was. It comes back where there is no memory
 // for the card's tables.
 pub fn reopened(card: FlashCard) -> Result<FlashCard, AllocFailed<Vec<u8>>>
-    ensures { MatchResult result (λ again. ⟦<FlashCard as Store>⟧.model again ≡ reopened (⟦<FlashCard as Store>⟧.model card)) (λ back. back.value ≡ (⟦<FlashCard as Store>⟧.model card).bytes) }
+    ensures { MatchResult result (λ again. ⟦<FlashCard as Store>⟧.model again ≡ reopened (⟦<FlashCard as Store>⟧.model card)) (λ back. back.value.items ≡ (⟦<FlashCard as Store>⟧.model card).bytes) }
 {
     let count = card.count();
     FlashCard::new(card.into_memory(), count, 1)
