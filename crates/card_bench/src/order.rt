@@ -40,7 +40,5 @@ fn number(word: Option<String>) -> anyhow::Result<u32> {
     let Some(word) = word else {
         return Err(anyhow!("card_bench takes three numbers"));
     };
-    word.as_str()
-        .parse()
-        .map_err(|_| anyhow!("an argument is no number from 0 to 4294967295"))
+    word.as_str().parse().map_err(|_| anyhow!("an argument is no number from 0 to 4294967295"))
 }

@@ -5,7 +5,7 @@ use Rattle.std.proofs.lemmas.Bool.{true≢false, cond-true, cond-false, lt-ltb, 
 use Rattle.flash_card.specs.Card.{CardModel, pages, free, round, skipped, free_page}
 use Rattle.flash_card.specs.CardKeeps.{free_in, free_free}
 use Rattle.flash_card.specs.Search.{first_is}
-use Rattle.flash_card.specs.Tables.{FirstFree}
+use Rattle.flash_card.specs.Tables.{FirstMarked}
 
 module _
     (s : CardModel) (vacant : List Bool) (hand : s.hand < pages s.bytes)
@@ -35,7 +35,7 @@ module _
       let skip : skipped s ≡ k = first_is test n k a (at_place k p l e ∙ t) none in
       sym (ap (λ k. round n (s.hand + k)) skip ∙ e)
 
-  pub found_ahead : (p : ℕ) → FirstFree vacant s.hand n (Some p) → p ≡ free_page s
+  pub found_ahead : (p : ℕ) → FirstMarked vacant s.hand n (Some p) → p ≡ free_page s
   found_ahead p f =
       let low : s.hand ≤ p = f.0 in
       let high : p < n = f.1 in
@@ -43,7 +43,7 @@ module _
       reached k p (omega arith) high (straight k p (omega arith) high) f.2
       (λ j l. at_place j (s.hand + j) (omega arith) (straight j (s.hand + j) (omega arith) (omega arith)) ∙ f.3 (s.hand + j) (omega arith) (omega arith))
 
-  pub found_behind : (p : ℕ) → FirstFree vacant s.hand n None → FirstFree vacant 0 s.hand (Some p) → p ≡ free_page s
+  pub found_behind : (p : ℕ) → FirstMarked vacant s.hand n None → FirstMarked vacant 0 s.hand (Some p) → p ≡ free_page s
   found_behind p none f =
       let high : p < s.hand = f.1 in
       let k : ℕ = (n + p) - s.hand in
@@ -58,7 +58,7 @@ module _
       (cases_lt (s.hand + j) n))
 
   pub found_none :
-      (s.count + 1) * 516 ≤ length s.bytes → FirstFree vacant s.hand n None
+      (s.count + 1) * 516 ≤ length s.bytes → FirstMarked vacant s.hand n None
       → ((k : ℕ) → 0 ≤ k → k < s.hand → slice_index_or vacant k false ≡ false) → ⊥
   found_none room ahead behind =
       let p = free_page s in

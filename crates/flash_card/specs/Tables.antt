@@ -1,17 +1,18 @@
 -- What the card keeps beside its bytes, and how it follows from them.
-use Rattle.std.specs.Prelude.{◌≡◌, ℕ, ◌*◌, ◌/◌, ◌<◌, ◌≤◌, Bool, true, false, cond, List, length, Option, MatchOption, ◌==◌, ◌≢◌, nat_lt, slice_index_or}
+use Rattle.std.specs.Prelude.{◌≡◌, ℕ, ◌+◌, ◌*◌, ◌/◌, ◌<◌, ◌≤◌, Bool, true, false, cond, List, length, Option, MatchOption, ◌==◌, ◌≢◌, nat_lt, slice_index_or}
 use Rattle.flash_card.specs.Card.{pages, owner, first_page, free, disown_first}
 
--- of the pages from i to n, r is the first that is free
-abbrev pub FirstFree : List Bool → ℕ → ℕ → Option ℕ → Type 0
-FirstFree vacant i n r =
-    MatchOption r ((k : ℕ) → i ≤ k → k < n → slice_index_or vacant k false ≡ false)
-    (λ p. (i ≤ p) × (p < n) × (slice_index_or vacant p false ≡ true) × ((k : ℕ) → i ≤ k → k < p → slice_index_or vacant k false ≡ false))
+-- of the marks from place i to n, the one at r is the first that is set
+abbrev pub FirstMarked : List Bool → ℕ → ℕ → Option ℕ → Type 0
+FirstMarked marks i n r =
+    MatchOption r ((k : ℕ) → i ≤ k → k < n → slice_index_or marks k false ≡ false)
+    (λ p. (i ≤ p) × (p < n) × (slice_index_or marks p false ≡ true) × ((k : ℕ) → i ≤ k → k < p → slice_index_or marks k false ≡ false))
 
--- The groups of 256 pages that the search for a free page goes into: each with a free page is one.
-pub record Grouped (vacant groups : List Bool) : Type 0 where
-  pub enough : length vacant ≤ length groups * 256
-  pub covered : (i : ℕ) → slice_index_or vacant i false ≡ true → slice_index_or groups (i / 256) false ≡ true
+-- The groups of 256 places that a search for a mark goes into: each with a mark is one.
+pub record Grouped (marks groups : List Bool) : Type 0 where
+  pub enough : length marks < length groups * 256
+  pub few : length groups * 256 ≤ length marks + 256
+  pub covered : (i : ℕ) → slice_index_or marks i false ≡ true → slice_index_or groups (i / 256) false ≡ true
 
 -- The tables of a card, of whose pages the first m are entered.
 pub record Entered (bytes : List ℕ) (m : ℕ) (shown : List ℕ) (stale vacant : List Bool) : Type 0 where

@@ -1,17 +1,15 @@
-// Which pages are free: a byte for each page, and one for each group of pages, so that a search passes over whole groups.
-ghost use Rattle.std.specs.Prelude.{◌≡◌, ◌<◌, ◌≤◌, false, true, length, replicate, IfOk, vec_items, vec_len, slice_set};
-ghost use Rattle.flash_card.specs.Tables.{FirstFree, Grouped};
+// Which pages are free: a byte for each page, and a mark for each group of pages that may have a free one.
+ghost use Rattle.std.specs.Prelude.{◌≡◌, ◌<◌, ◌≤◌, false, true, replicate, IfOk, vec_items, vec_len, slice_set};
+ghost use Rattle.flash_card.specs.Tables.{FirstMarked, Grouped};
 
+use crate::marks::{GROUP, Marks, first_marked};
 use std::alloc::{AllocError, Global};
-
-const GROUP_PAGES: usize = 256;
 
 #[derive(Drop)]
 pub struct FreePages {
     pub pages: Vec<bool>,
-    // false only where no page of the group is free
-    groups: Vec<bool>,
-    ghost grouped: { Grouped (vec_items pages) (vec_items groups) },
+    groups: Marks,
+    ghost grouped: { Grouped (vec_items pages) (vec_items groups.marks) },
 }
 
 impl FreePages {
@@ -20,7 +18,7 @@ impl FreePages {
         ensures { IfOk result (λ free. free.pages.items ≡ replicate count false) }
     {
         let pages = vec![in heap; false; count]?;
-        let groups = vec![in heap; false; count / GROUP_PAGES + 1]?;
+        let groups = Marks::none(heap, count / GROUP + 1)?;
         Ok(FreePages { pages, groups })
     }
 
@@ -29,7 +27,7 @@ impl FreePages {
         ensures { self.new.pages.items ≡ slice_set self.old.pages.items page true }
     {
         self.pages[page] = true;
-        self.groups[page / GROUP_PAGES] = true;
+        self.groups.set(page / GROUP);
     }
 
     pub fn remove(&mut self, page: usize)
@@ -37,36 +35,34 @@ impl FreePages {
         ensures { self.new.pages.items ≡ slice_set self.old.pages.items page false }
     {
         self.pages[page] = false;
-        let group = page / GROUP_PAGES;
-        let start = group * GROUP_PAGES;
-        let end = start + GROUP_PAGES.min(self.pages.len() - start);
-        self.groups[group] = first_free(&self.pages, start, end).is_some();
+        let group = page / GROUP;
+        let start = group * GROUP;
+        let end = start + GROUP.min(self.pages.len() - start);
+        if first_marked(&self.pages, start, end).is_none() {
+            self.groups.clear(group);
+        }
     }
 
     // The first free page of those from `start` on and before `end`.
     pub fn first_between(&self, start: usize, end: usize) -> Option<usize>
         requires { end ≤ vec_len self.now.pages }
-        ensures { FirstFree self.now.pages.items start end result }
+        ensures { FirstMarked self.now.pages.items start end result }
     {
         let mut page = start;
         while page < end {
-            let group = page / GROUP_PAGES;
-            let group_end = page + (GROUP_PAGES - page % GROUP_PAGES).min(end - page);
-            if self.groups[group]
-                && let Some(found) = first_free(&self.pages, page, group_end)
-            {
+            let group_end = page + (GROUP - page % GROUP).min(end - page);
+            if let Some(found) = first_marked(&self.pages, page, group_end) {
                 return Some(found);
             }
-            page = group_end;
+            page = self.marked_group(page / GROUP + 1)? * GROUP;
         }
         None
     }
-}
 
-// The same, page by page.
-fn first_free(pages: &[bool], start: usize, end: usize) -> Option<usize>
-    requires { end ≤ length pages.now }
-    ensures { FirstFree pages.now start end result }
-{
-    (start..end).find(|&page| pages[page])
+    // The first group from this one on that may have a free page.
+    fn marked_group(&self, group: usize) -> Option<usize>
+        ensures { FirstMarked self.now.groups.marks.items group (vec_len self.now.groups.marks) result }
+    {
+        self.groups.first_between(group, self.groups.marks.len())
+    }
 }

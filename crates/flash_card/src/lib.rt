@@ -7,6 +7,7 @@ ghost use Rattle.flash_card.specs.Tables.{Entered};
 mod disown;
 mod free_pages;
 mod layout;
+mod marks;
 mod pages;
 mod tables;
 
