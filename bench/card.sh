@@ -14,7 +14,7 @@ clone_before() {
     git clone -q "$top" "$work/before"
     git -C "$work/before" checkout -q "$tables^"
     mkdir "$work/before/crates/card_bench"
-    cp -r "$top/crates/card_bench/src" "$work/before/crates/card_bench/"
+    cp -r "$top/crates/card_bench/src" "$top/crates/card_bench/proofs" "$work/before/crates/card_bench/"
     sed -i 's/\(FlashCard::new(.*)\)?;/\1;/' "$work/before/crates/card_bench/src/times.rt"
     grep '^card_bench:' "$top/crates.txt" >> "$work/before/crates.txt"
 }
