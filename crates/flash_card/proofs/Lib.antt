@@ -1,1 +1,4 @@
-mod Found
+pub mod Entering
+pub mod Free
+pub mod GivenUp
+pub mod Putting

@@ -18,23 +18,23 @@ use Rattle.flash_card.specs.PageWrites.{length_after, owner_after, others_after,
 
 -- where each block's first page is once page p, which was free, is block b's
 module _
-    (o o' : ℕ → ℕ) (n p b count : ℕ) (here : p < n) (small : b < count) (few : count ≤ 16777216) (own : o' p ≡ b)
+    (o o' : ℕ → ℕ) (n p b count : ℕ) (here : p < n) (small : b < count) (few : count ≤ 4294967295) (own : o' p ≡ b)
     (others : (j : ℕ) → j < n → (j ≢ p) → o' j ≡ cond (o j == b) nobody (o j))
     (freed : o p < count → first_from (λ j. nat_eq (o j) (o p)) 0 p < p) where
-  given_up : (j : ℕ) → j < n → (j ≢ p) → o j ≡ b → o' j ≡ nobody
+  pub given_up : (j : ℕ) → j < n → (j ≢ p) → o j ≡ b → o' j ≡ nobody
   given_up j l m e = others j l m ∙ cond-true (o j == b) nobody (o j) (eq-eqb (o j) b e)
 
-  kept : (j : ℕ) → j < n → (j ≢ p) → (o j ≢ b) → o' j ≡ o j
+  pub kept : (j : ℕ) → j < n → (j ≢ p) → (o j ≢ b) → o' j ≡ o j
   kept j l m e = others j l m ∙ cond-false (o j == b) nobody (o j) (ne_eqb (o j) b e)
 
-  not_mine : (j : ℕ) → j < n → (j ≢ p) → o' j ≢ b
+  pub not_mine : (j : ℕ) → j < n → (j ≢ p) → o' j ≢ b
   not_mine j l m e =
       ⊎_elim
       (λ (x : o j ≡ b). let g = given_up j l m x in omega arith)
       (λ (x : o j ≡ b → ⊥). x (sym (kept j l m x) ∙ e))
       (cases_eq (o j) b)
 
-  alike : (k j : ℕ) → k < count → (k ≢ b) → j < n → (j ≢ p) → (o' j == k) ≡ (o j == k)
+  pub alike : (k j : ℕ) → k < count → (k ≢ b) → j < n → (j ≢ p) → (o' j == k) ≡ (o j == k)
   alike k j s ne l m =
       ⊎_elim
       (λ (x : o j ≡ b).
@@ -89,7 +89,7 @@ module _ (bytes : List ℕ) (count i : ℕ) where
       go true e h = (ltb-true (owner bytes i) count e, ltb-false (first_page bytes (owner bytes i) i) i h)
       go false e h = absurd (true≢false h)
 
-  freed : free bytes count i ≡ true → owner bytes i < count → first_page bytes (owner bytes i) i < i
+  pub freed : free bytes count i ≡ true → owner bytes i < count → first_page bytes (owner bytes i) i < i
   freed h l =
       ltb-true (first_page bytes (owner bytes i) i) i
       (sym (cond-true (nat_lt (owner bytes i) count) (nat_lt (first_page bytes (owner bytes i) i) i) true (lt-ltb (owner bytes i) count l)) ∙ h)
@@ -231,6 +231,9 @@ module _ (s : CardModel) (b : ℕ) (x : Content) (ok : CardGood s) (z : length x
       in_n : p < n
       in_n = free_in s ok.fit.room ok.hand
 
+      few : s.count ≤ 4294967295
+      few = let f = ok.fit.few in omega arith
+
       owns : owner after p ≡ b
       owns = owner_after s.bytes b p x z in_n (let f = ok.fit.few in omega arith)
 
@@ -243,7 +246,7 @@ module _ (s : CardModel) (b : ℕ) (x : Content) (ok : CardGood s) (z : length x
       mine : k ≡ b → shown_at after n (first_page after k n) ≡ cond (k == b) x (shown s.bytes k)
       mine e =
           ap (λ k. shown_at after n (first_page after k n)) e
-          ∙ ap (shown_at after n) (first_own o (owner after) n p b s.count in_n h ok.fit.few owns rest was_free)
+          ∙ ap (shown_at after n) (first_own o (owner after) n p b s.count in_n h few owns rest was_free)
           ∙ cond-true (nat_lt p n) (page_content after p) zeros (lt-ltb p n in_n)
           ∙ content_after s.bytes b p x z in_n
           ∙ sym (cond-true (k == b) x (shown s.bytes k) (eq-eqb k b e))
@@ -255,12 +258,12 @@ module _ (s : CardModel) (b : ℕ) (x : Content) (ok : CardGood s) (z : length x
           ⊎_elim
           (λ (a : f < n).
           ap (λ c. cond (nat_lt f n) c zeros)
-          (contents_after s.bytes b p x z in_n f (first_aside o (owner after) n p b s.count in_n h ok.fit.few owns rest was_free k l e a)))
+          (contents_after s.bytes b p x z in_n f (first_aside o (owner after) n p b s.count in_n h few owns rest was_free k l e a)))
           (λ (a : n ≤ f).
           cond-false (nat_lt f n) (page_content after f) zeros (le-ltb f n a)
           ∙ sym (cond-false (nat_lt f n) (page_content s.bytes f) zeros (le-ltb f n a)))
           (cases_lt f n) in
-          ap (shown_at after n) (first_other o (owner after) n p b s.count in_n h ok.fit.few owns rest was_free k l e)
+          ap (shown_at after n) (first_other o (owner after) n p b s.count in_n h few owns rest was_free k l e)
           ∙ same
           ∙ sym (cond-false (k == b) x (shown s.bytes k) (ne_eqb k b e))
 

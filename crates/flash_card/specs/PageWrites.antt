@@ -123,7 +123,7 @@ module _ (bytes : List ℕ) (b p : ℕ) where
       let d = length_disowned n (omega arith) in
       disown_past (disown_first bytes b p n) b p n (omega arith) a (omega arith) ∙ past_disowned n (omega arith) a (omega arith)
 
-  not_yet : (n : ℕ) → n ≤ pages bytes → (j : ℕ) → n ≤ j → owner (disown_first bytes b p n) j ≡ owner bytes j
+  pub not_yet : (n : ℕ) → n ≤ pages bytes → (j : ℕ) → n ≤ j → owner (disown_first bytes b p n) j ≡ owner bytes j
   unfolding disown_first
   not_yet zero h j l = refl
   not_yet (suc n) h j l =

@@ -1,6 +1,7 @@
 // How the card's blocks lie in its pages.
-ghost use Rattle.std.specs.Prelude.{◌≡◌, ◌+◌, ◌*◌, ◌/◌, ◌<◌, ◌≤◌, vec_len};
-ghost use Rattle.flash_card.specs.Card.{CardModel, CardGood, card, skipped, free_page};
+ghost use Rattle.std.specs.Prelude.{◌≡◌, ◌+◌, ◌*◌, ◌/◌, ◌<◌, ◌≤◌, length, nat_eq, vec_items, vec_len};
+ghost use Rattle.store.specs.Places.{if_below};
+ghost use Rattle.flash_card.specs.Card.{CardModel, CardGood, card, first_page, free_page};
 ghost use Rattle.flash_card.specs.Modeled.{card_model};
 ghost use Rattle.flash_card.specs.PageLaw.{PutPages};
 ghost use Rattle.flash_card.specs.CardKeeps.{card_keeps, card_put_pages};
@@ -8,29 +9,36 @@ ghost use Rattle.std.proofs.Common.{rules, arith};
 
 use crate::Card;
 use crate::pages::{PAGE_BYTES, Pages, round};
+use crate::tables::Tables;
 use medium::Layout;
+use std::alloc::AllocFailed;
 use store::BLOCK_BYTES;
 
 impl Card {
-    // How many pages, counting round from the hand, come before the first free one.
-    fn skipped(&self, count: u32) -> usize
-        requires { (count + 1) * 516 ≤ vec_len self.now.pages.memory }
+    // The first free page, counting round from the hand.
+    fn free_page(&self) -> usize
+        requires { (length self.now.tables.shown.items + 1) * 516 ≤ vec_len self.now.pages.memory }
         ensures within { result < vec_len self.now.pages.memory / 516 }
-        ensures skipped { result ≡ skipped (card_model self.now count 0) }
+        ensures page { result ≡ free_page (card_model self.now (length self.now.tables.shown.items) 0) }
     {
-        let n = self.pages.count();
-        (0..n)
-            .find(|&k| self.pages.is_free(count, round(n, self.hand + k)))
-            .unwrap_or(n)
+        let free = &self.tables.free;
+        match free.first_between(self.hand, self.pages.count()) {
+            Some(page) => page,
+            None => free.first_between(0, self.hand).unwrap(),
+        }
     }
 
-    // The first free page, counting round from the hand.
-    fn free_page(&self, count: u32) -> usize
-        requires { (count + 1) * 516 ≤ vec_len self.now.pages.memory }
-        ensures within { result < vec_len self.now.pages.memory / 516 }
-        ensures page { result ≡ free_page (card_model self.now count 0) }
+    // The block's first page, if it has one.
+    fn first_page(&self, block: u32) -> Option<usize>
+        requires { block < vec_len self.now.tables.shown }
+        ensures { result ≡ if_below (vec_len self.now.pages.memory / 516) (first_page self.now.pages.memory.items block (vec_len self.now.pages.memory / 516)) }
     {
-        round(self.pages.count(), self.hand + self.skipped(count))
+        let page = self.tables.shown[block as usize];
+        if page < self.pages.count() {
+            Some(page)
+        } else {
+            None
+        }
     }
 }
 
@@ -49,9 +57,9 @@ impl Layout for Card {
 
     ghost bytes = { λ l. l.pages.memory };
 
-    ghost fresh = { λ l. l.hand ≡ 0 };
+    ghost made = { λ l count. nat_eq (length (vec_items l.tables.shown)) count };
 
-    ghost rising = { Prim.search rules };
+    ghost fresh = { λ l. l.hand ≡ 0 };
 
     ghost counts = { Prim.search rules };
 
@@ -68,10 +76,17 @@ impl Layout for Card {
         (count as usize + 1) * PAGE_BYTES
     }
 
-    fn over(memory: Vec<u8>) -> Card {
-        Card {
-            pages: Pages { memory },
-            hand: 0,
+    fn over(memory: Vec<u8>, count: u32) -> Result<Card, AllocFailed<Vec<u8>>> {
+        let pages = Pages { memory };
+        match Tables::of(*pages.memory.allocator(), &pages, count) {
+            Ok(tables) => Ok(Card {
+                pages,
+                hand: 0,
+                tables,
+            }),
+            Err(_) => Err(AllocFailed {
+                value: pages.memory,
+            }),
         }
     }
 
@@ -79,24 +94,26 @@ impl Layout for Card {
         let Card {
             pages: Pages { memory },
             hand: _,
+            tables: _,
         } = self;
         memory
     }
 
     // What the block shows: its first page, or zeros if it has none.
     #[tactic(auto, unfolding(crate::specs::Card::zeros))]
-    fn content(&self, block: u32) -> [u8; BLOCK_BYTES] {
-        match self.pages.first_page(block, self.pages.count()) {
+    fn content(&self, _count: u32, block: u32) -> [u8; BLOCK_BYTES] {
+        match self.first_page(block) {
             Some(page) => self.pages.content(page),
             None => [0; BLOCK_BYTES],
         }
     }
 
     // The first free page takes the content, and the block's other pages are given up.
-    fn store(&mut self, count: u32, block: u32, content: &[u8; BLOCK_BYTES]) {
-        let page = self.free_page(count);
+    fn store(&mut self, _count: u32, block: u32, content: &[u8; BLOCK_BYTES]) {
+        let page = self.free_page();
         self.pages.write(page, block, content);
-        self.pages.disown_others(block, page);
+        self.pages.disown_others(&mut self.tables, block, page);
+        self.tables.take(block, page);
         self.hand = round(self.pages.count(), page + 1);
     }
 }

@@ -1,7 +1,7 @@
 // The flat medium, such as battery-held memory: block b stands at bytes 512 × b to 512 × b + 511.
 #![tactic(auto)]
 
-ghost use Rattle.std.specs.Prelude.{◌*◌};
+ghost use Rattle.std.specs.Prelude.{◌*◌, true};
 ghost use Rattle.medium.specs.Medium.{Stores};
 ghost use Rattle.flat_medium.specs.Flat.{FlatModel, FlatGood, flat};
 ghost use Rattle.flat_medium.specs.Modeled.{flat_model};
@@ -10,6 +10,7 @@ ghost use Rattle.std.proofs.Common.{rules, arith};
 
 use medium::memory::array_at;
 use medium::{BlockMedium, Layout};
+use std::alloc::AllocFailed;
 use store::{BLOCK_BYTES, overwrite};
 
 pub type FlatMedium = BlockMedium<Flat>;
@@ -35,9 +36,9 @@ impl Layout for Flat {
 
     ghost bytes = { λ l. l.memory };
 
-    ghost fresh = { λ _. Unit {0} };
+    ghost made = { λ _ _. true };
 
-    ghost rising = { Prim.search rules };
+    ghost fresh = { λ _. Unit {0} };
 
     ghost counts = { Prim.search rules };
 
@@ -53,15 +54,16 @@ impl Layout for Flat {
         count as usize * BLOCK_BYTES
     }
 
-    fn over(memory: Vec<u8>) -> Flat {
-        Flat { memory }
+    // Nothing is kept beside the memory, so there is nothing to refuse.
+    fn over(memory: Vec<u8>, _count: u32) -> Result<Flat, AllocFailed<Vec<u8>>> {
+        Ok(Flat { memory })
     }
 
     fn into_memory(self) -> Vec<u8> {
         self.memory
     }
 
-    fn content(&self, block: u32) -> [u8; BLOCK_BYTES] {
+    fn content(&self, _count: u32, block: u32) -> [u8; BLOCK_BYTES] {
         array_at(&self.memory, block as usize * BLOCK_BYTES)
     }
 

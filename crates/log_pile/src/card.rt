@@ -1,10 +1,10 @@
 // The card at the bottom of the pile, new and at the next power-on.
-ghost use Rattle.std.specs.Prelude.{◌≡◌, IfOk};
+ghost use Rattle.std.specs.Prelude.{◌≡◌, IfOk, MatchResult};
 ghost use Rattle.log_pile.specs.Pile.{erased, reopened};
 
 use flash_card::{FlashCard, PAGE_BYTES};
 use shift_log::LOG_BLOCKS;
-use std::alloc::{AllocError, Global};
+use std::alloc::{AllocError, AllocFailed, Global};
 use store::Store;
 
 // four pages more than blocks
@@ -15,12 +15,13 @@ pub fn erased_card(heap: Global, grant: u32) -> Result<FlashCard, AllocError>
     ensures { IfOk result (λ card. ⟦<FlashCard as Store>⟧.model card ≡ erased grant) }
 {
     let memory = vec![in heap; 0xff_u8; CARD_BYTES]?;
-    Ok(FlashCard::new(memory, LOG_BLOCKS, grant))
+    Ok(FlashCard::new(memory, LOG_BLOCKS, grant)?)
 }
 
-// The card at the next power-on, to see what stands on it: its memory is as it was.
-pub fn reopened(card: FlashCard) -> FlashCard
-    ensures { ⟦<FlashCard as Store>⟧.model result ≡ reopened (⟦<FlashCard as Store>⟧.model card) }
+// The card at the next power-on, to see what stands on it: its memory is as it was. It comes back where there is no memory
+// for the card's tables.
+pub fn reopened(card: FlashCard) -> Result<FlashCard, AllocFailed<Vec<u8>>>
+    ensures { MatchResult result (λ again. ⟦<FlashCard as Store>⟧.model again ≡ reopened (⟦<FlashCard as Store>⟧.model card)) (λ back. back.value.items ≡ (⟦<FlashCard as Store>⟧.model card).bytes) }
 {
     let count = card.count();
     FlashCard::new(card.into_memory(), count, 1)

@@ -21,7 +21,7 @@ mod tests {
         assert_eq!(rt; remains.in_table, 0);
         assert_eq!(rt; remains.in_queue, 0);
         assert_eq!(rt; remains.stores(5), 0);
-        assert_eq!(rt; reopened(remains.card).into_memory().len(), CARD_BYTES);
+        assert_eq!(rt; reopened(remains.card)?.into_memory().len(), CARD_BYTES);
         Ok(())
     }
 }

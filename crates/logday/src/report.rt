@@ -87,7 +87,7 @@ impl fmt::Display for Held<'_> {
 // What the next power-on would find on the card, block by block. A loop in each program: what is printed of a block
 // differs, and a closure for it would be longer than the loop.
 pub fn print_medium(rt: &HostRuntime, card: FlashCard) -> anyhow::Result<()> {
-    let mut card = reopened(card);
+    let mut card = reopened(card)?;
     println!(rt; "  on the card")?;
     for block in 0..LOG_BLOCKS {
         let found = Found(Record::from_content(&card.read_block(block)?));

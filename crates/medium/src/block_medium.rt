@@ -1,5 +1,5 @@
 // A medium of blocks, of any layout.
-ghost use Rattle.std.specs.Prelude.{◌≡◌, ◌<◌, ◌≤◌, length, vec_len};
+ghost use Rattle.std.specs.Prelude.{◌≡◌, ◌<◌, ◌≤◌, true, length, vec_len, MatchResult};
 ghost use Rattle.store.specs.Steps.{stepped};
 ghost use Rattle.medium.specs.Check.{check_number, checked};
 ghost use Rattle.medium.specs.Medium.{medium_steps, medium_meaning};
@@ -8,6 +8,7 @@ use crate::Unfit;
 use crate::grant::spend;
 use crate::layout::Layout;
 use crate::memory::check;
+use std::alloc::AllocFailed;
 use store::{BLOCK_BYTES, Store, StoreError, require_power};
 
 // The grant is how many block stores the medium will still make; power is on while there is some left.
@@ -20,6 +21,7 @@ pub struct BlockMedium<L: Layout> {
     ghost few: { count ≤ 16777216 },
     ghost granted: { grant ≤ 4294967295 },
     ghost room: { L.needed count ≤ vec_len (L.bytes layout) },
+    ghost made: { L.made layout count ≡ true },
 }
 
 impl<L: Layout> BlockMedium<L> {
@@ -30,16 +32,20 @@ impl<L: Layout> BlockMedium<L> {
         check(memory, count, L::needed(count))
     }
 
-    // A medium over memory so checked, which is left as it is.
-    pub fn new(memory: Vec<u8>, count: u32, grant: u32) -> BlockMedium<L>
+    // A medium over memory so checked, which is left as it is, or that memory back for want of more.
+    pub fn new(
+        memory: Vec<u8>,
+        count: u32,
+        grant: u32,
+    ) -> Result<BlockMedium<L>, AllocFailed<Vec<u8>>>
         requires { check_number (checked count (L.needed count) (vec_len memory)) ≡ 0 }
-        ensures { (L.bytes result.layout ≡ memory) × (result.count ≡ count) × (result.grant ≡ grant) × L.fresh result.layout }
+        ensures { MatchResult result (λ medium. (L.bytes medium.layout ≡ memory) × (medium.count ≡ count) × (medium.grant ≡ grant) × L.fresh medium.layout) (λ back. back.value ≡ memory) }
     {
-        BlockMedium {
-            layout: L::over(memory),
+        Ok(BlockMedium {
+            layout: L::over(memory, count)?,
             count,
             grant,
-        }
+        })
     }
 
     // How many block stores the medium will still make.
@@ -87,7 +93,7 @@ impl<L: Layout> Store for BlockMedium<L> {
 
     fn read_block(&mut self, block: u32) -> Result<[u8; BLOCK_BYTES], StoreError> {
         self.admit(block)?;
-        Ok(self.layout.content(block))
+        Ok(self.layout.content(self.count, block))
     }
 
     // One store: the block takes the content, and the grant is lower by 1.

@@ -1,11 +1,12 @@
 // How the blocks of a medium lie in its memory.
-ghost use Rattle.std.specs.Prelude.{◌≡◌, ℕ, ◌+◌, ◌-◌, ◌<◌, ◌≤◌, length, vec_len};
+ghost use Rattle.std.specs.Prelude.{◌≡◌, ℕ, ◌-◌, ◌<◌, ◌≤◌, Bool, true, length, vec_len, MatchResult};
 ghost use Rattle.std.specs.declared.alloc.Global.{Global};
 ghost use Rattle.std.specs.declared.vec.Vec.{Vec};
 ghost use Rattle.store.specs.Steps.{Content};
 ghost use Rattle.store.specs.Keeps.{Keeps};
 ghost use Rattle.medium.specs.Medium.{Medium, Fit, medium_steps, medium_meaning};
 
+use std::alloc::AllocFailed;
 use store::BLOCK_BYTES;
 
 // A layout owns the memory, and reads and writes one block of it. The count, the grant and the refusals are
@@ -31,6 +32,9 @@ pub trait Layout {
 
     ghost bytes: { Self → Vec ℕ Global };
 
+    // was the layout made for so many blocks?
+    ghost made: { Self → ℕ → Bool };
+
     // how the layout of a new medium is, beside its memory
     ghost fresh: { Self → Type 0 };
 
@@ -38,29 +42,31 @@ pub trait Layout {
     fn needed(count: u32) -> usize
         ensures { result ≡ needed count };
 
-    // A layout over memory with room for a block, which is left as it is.
-    fn over(memory: Vec<u8>) -> Self
-        requires { needed 1 ≤ vec_len memory }
-        ensures { (bytes result ≡ memory) × fresh result };
+    // A layout for so many blocks over memory with room for them, which is left as it is. It comes back where there is
+    // no memory for what the layout keeps beside it.
+    fn over(memory: Vec<u8>, count: u32) -> Result<Self, AllocFailed<Vec<u8>>>
+        requires { needed count ≤ vec_len memory }
+        ensures { MatchResult result (λ layout. (bytes layout ≡ memory) × (made layout count ≡ true) × fresh layout) (λ back. back.value ≡ memory) };
 
     // The memory back.
     fn into_memory(self) -> Vec<u8>
         ensures { result ≡ bytes self };
 
     // What the block shows.
-    fn content(&self, block: u32) -> [u8; BLOCK_BYTES]
-        requires { needed (block + 1) ≤ vec_len (bytes self.now) }
-        ensures { (count grant : ℕ) → result ≡ medium.shown (model self.now count grant) block };
+    fn content(&self, count: u32, block: u32) -> [u8; BLOCK_BYTES]
+        requires inside { block < count }
+        requires room { needed count ≤ vec_len (bytes self.now) }
+        requires made { made self.now count ≡ true }
+        ensures { (grant : ℕ) → result ≡ medium.shown (model self.now count grant) block };
 
     // One store: the block takes the content.
     fn store(&mut self, count: u32, block: u32, content: &[u8; BLOCK_BYTES])
         requires inside { block < count }
         requires room { needed count ≤ vec_len (bytes self.old) }
+        requires made { made self.old count ≡ true }
         ensures puts { (grant : ℕ) → model self.new count (grant - 1) ≡ medium.put (model self.old count grant) block content.now }
-        ensures len { vec_len (bytes self.new) ≡ vec_len (bytes self.old) };
-
-    // more blocks need no fewer bytes
-    ghost rising: { (m n : ℕ) → m ≤ n → needed m ≤ needed n };
+        ensures len { vec_len (bytes self.new) ≡ vec_len (bytes self.old) }
+        ensures kept { made self.new count ≡ true };
 
     // the model has the medium's count and grant
     ghost counts: { (l : Self) (count grant : ℕ) → medium.count (model l count grant) ≡ count };

@@ -2,6 +2,7 @@
 mod caches;
 mod calls;
 mod card_pages;
+mod junk_cards;
 mod media;
 mod pile;
 mod setup;

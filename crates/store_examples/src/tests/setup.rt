@@ -25,7 +25,7 @@ pub fn flat(heap: Global, bytes: &[u8], grant: u32) -> Result<FlatMedium, Fail>
     let memory = blocks(heap, bytes)?;
     let count = u32::try_from(bytes.len())?;
     FlatMedium::check(&memory, count)?;
-    Ok(FlatMedium::new(memory, count, grant))
+    Ok(FlatMedium::new(memory, count, grant)?)
 }
 
 // A flash card with so many blocks over these pages.
@@ -34,5 +34,5 @@ pub fn card(heap: Global, count: u32, over: &[Page], grant: u32) -> Result<Flash
 {
     let memory = pages(heap, over)?;
     FlashCard::check(&memory, count)?;
-    Ok(FlashCard::new(memory, count, grant))
+    Ok(FlashCard::new(memory, count, grant)?)
 }

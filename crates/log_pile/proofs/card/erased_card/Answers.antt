@@ -3,4 +3,5 @@ use Rattle.log_pile.proofs.card.erased_card.Goals as goal
 
 pub returns : goal.returns
 returns c =
-    rw (c.new.ensures.0, c.new.ensures.1, c.new.ensures.2, c.new.ensures.3, c.in_ok-memory.ensures.items_if_clones_equal (λ y same. same)) refl
+    let made = c.in_ok-new.ensures in
+    rw (made.0, made.1, made.2, made.3, c.in_ok-memory.ensures.items_if_clones_equal (λ y same. same)) refl
