@@ -36,8 +36,8 @@ module _ {M : Type 0} {steps : Steps M} {meaning : M → Meaning} {good : M → 
             (sym e) (call_limits steps meaning good K w g (Command (record { host = h; cdb = cdb; data_out = out; data_in = d })));
       }
 
-  pub flushed : {m m' : M} {r : Outcome (Unit {0})} → good m → stepped r m' ≡ steps.flush m → Flushed (meaning m) (meaning m')
-  flushed {m} g e = subst (λ (r : Stepped (Unit {0}) M). Flushed (meaning m) (meaning r.after)) (sym e) (make_flushes steps meaning good K m g)
+  pub flushed : {m m' : M} → good m → m' ≡ (steps.flush m).after → Flushed (meaning m) (meaning m')
+  flushed {m} g e = subst (λ (s : M). Flushed (meaning m) (meaning s)) (sym e) (make_flushes steps meaning good K m g)
 
 -- a command that passes the ladder, and what it then does
 pub ran :

@@ -24,6 +24,13 @@ fn answer_of(outcome: Result<u32, StoreError>) -> Answer
     outcome.map_err(|_| CommandError::PowerOff)
 }
 
+// What the pile holds is flushed, whatever that answers.
+fn flush_pile<S: Store>(store: &mut S)
+    ensures { S.Store.model store.new ≡ (S.Store.steps.flush (S.Store.model store.old)).after }
+{
+    let _ = store.flush();
+}
+
 impl<S: Store> Module<S> {
     // COMMAND: the ladder, and then what the command does. Data-in past the count of the answer is left as it is.
     pub fn command(&mut self, host: u32, cdb: &[u8], data_out: &[u8], data_in: &mut [u8]) -> Answer
@@ -70,7 +77,7 @@ impl<S: Store> Module<S> {
         ensures law { RunsSafely S.Store.steps S.Store.meaning (modeled S.Store.model result) }
     {
         let mut store = store;
-        let _ = store.flush();
+        flush_pile(&mut store);
         let unit = LogicalUnit::new();
         Module {
             device: Device { store, unit },
