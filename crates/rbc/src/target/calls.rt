@@ -2,8 +2,7 @@
 ghost use Rattle.std.specs.Prelude.{◌≡◌};
 ghost use Rattle.rbc_steps.specs.Module.{exchange, replied, answer_of, commanded, reset, made_over};
 ghost use Rattle.rbc_steps.specs.Refusals.{RefusalKeeps};
-ghost use Rattle.rbc_steps.specs.Writes.{added, added_count};
-ghost use Rattle.rbc_steps.specs.Calls.{asked};
+ghost use Rattle.rbc_steps.specs.Work.{work_done};
 ghost use Rattle.rbc_steps.specs.Limits.{Limits, Flushed};
 ghost use Rattle.run_law.specs.Law.{RunsSafely};
 ghost use Rattle.rbc.specs.Modeled.{modeled};
@@ -36,7 +35,7 @@ impl<S: Store> Module<S> {
     pub fn command(&mut self, host: u32, cdb: &[u8], data_out: &[u8], data_in: &mut [u8]) -> Answer
         ensures value { replied result (exchange (modeled S.Store.model self.new) data_in.new) ≡ commanded S.Store.steps host cdb.now data_out.now (exchange (modeled S.Store.model self.old) data_in.old) }
         ensures refusals { RefusalKeeps S.Store.steps host (exchange (modeled S.Store.model self.old) data_in.old) (replied result (exchange (modeled S.Store.model self.new) data_in.new)) }
-        ensures limits { Limits (S.Store.meaning (S.Store.model self.old.device.store)) (added (asked host cdb.now data_out.now) result (S.Store.steps.power (S.Store.model self.old.device.store))) (added_count (asked host cdb.now data_out.now) result (S.Store.steps.power (S.Store.model self.old.device.store))) (S.Store.meaning (S.Store.model self.new.device.store)) }
+        ensures limits { Limits (S.Store.meaning (S.Store.model self.old.device.store)) (work_done self.old.device.unit cdb.now data_out.now result (S.Store.steps.power (S.Store.model self.old.device.store))) result (S.Store.meaning (S.Store.model self.new.device.store)) }
     {
         let power = self.device.store.power();
         let count = self.device.store.count();
