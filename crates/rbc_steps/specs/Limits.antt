@@ -1,6 +1,6 @@
 -- Within which limits a call may have moved the store.
 use Rattle.std.specs.Prelude.{◌≡◌, ℕ, suc, ◌+◌, ◌-◌, ◌<◌, ◌≤◌, ◌≢◌, true, [], ◌∷◌}
-use Rattle.store.specs.Meaning.{Meaning, contents, newest, followed, held, Thins, Survives}
+use Rattle.store.specs.Meaning.{Meaning, contents, newest, followed, held, Thins, Survives, Same}
 use Rattle.sense.specs.Report.{Answer, number}
 use Rattle.rbc_steps.specs.Work.{Work, one_flush}
 
@@ -11,6 +11,8 @@ pub record Moved (m : Meaning) (w : Work) (m' : Meaning) : Type 0 where
   pub ended : ℕ
   pub order : (ended ≤ begun) × ((begun ≤ suc ended) × (begun ≤ w.turns))
   pub all : 0 < m'.grant → ended ≡ w.turns
+  -- before the first nothing has moved
+  pub still : begun ≡ 0 → Same m m'
   pub count : m'.count ≡ m.count
   pub falls : m'.grant ≤ m.grant
   -- the block stores made, and what is still held, are no more than what was held and written
