@@ -1,9 +1,10 @@
 // The medium at the bottom of a pile.
-ghost use Rattle.std.specs.Prelude.{◌≡◌};
+ghost use Rattle.std.specs.Prelude.{◌≡◌, IfOk};
 ghost use Rattle.piles.specs.Bottoms.{granted, counted, Reopened, Shows};
 
 use flash_card::FlashCard;
 use flat_medium::FlatMedium;
+use std::alloc::AllocError;
 use store::{BLOCK_BYTES, Store, StoreError};
 
 #[derive(Drop)]
@@ -33,13 +34,15 @@ impl Bottom {
     }
 
     // The medium at the next power-on, to see what stands on it: its memory is as it was.
-    pub fn reopened(self) -> Bottom
-        ensures { Reopened self result }
+    pub fn reopened(self) -> Result<Bottom, AllocError>
+        ensures { IfOk result (Reopened self) }
     {
         let count = self.count();
         match self {
-            Bottom::Flat(medium) => Bottom::Flat(FlatMedium::new(medium.into_memory(), count, 1)),
-            Bottom::Card(card) => Bottom::Card(FlashCard::new(card.into_memory(), count, 1)),
+            Bottom::Flat(medium) => {
+                Ok(Bottom::Flat(FlatMedium::new(medium.into_memory(), count, 1)?))
+            }
+            Bottom::Card(card) => Ok(Bottom::Card(FlashCard::new(card.into_memory(), count, 1)?)),
         }
     }
     // What stands at the block, where power is on.

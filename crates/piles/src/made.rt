@@ -51,12 +51,14 @@ pub fn new_medium(
         MediumKind::Flat => {
             let memory = vec![in heap; 0_u8; blocks as usize * BLOCK_BYTES]?;
             FlatMedium::check(&memory, blocks)?;
-            Ok(Bottom::Flat(FlatMedium::new(memory, blocks, grant)))
+            let medium = FlatMedium::new(memory, blocks, grant).map_err(AllocError::from)?;
+            Ok(Bottom::Flat(medium))
         }
         MediumKind::Card { pages } => {
             let memory = vec![in heap; 0xff_u8; pages as usize * PAGE_BYTES]?;
             FlashCard::check(&memory, blocks)?;
-            Ok(Bottom::Card(FlashCard::new(memory, blocks, grant)))
+            let card = FlashCard::new(memory, blocks, grant).map_err(AllocError::from)?;
+            Ok(Bottom::Card(card))
         }
     }
 }

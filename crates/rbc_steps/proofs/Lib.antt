@@ -2,6 +2,9 @@ pub mod Lines
 pub mod Growth
 pub mod Stores
 pub mod Turns
+pub mod Works
+pub mod WorkTurns
+pub mod WorkOfCommands
 pub mod WithinLimits
-pub mod Refusing
 pub mod Promises
+pub mod Refusing

@@ -8,12 +8,11 @@ use Rattle.store.specs.Keeps.{Keeps}
 use Rattle.sense.specs.declared.CommandError.{CommandError}
 use Rattle.sense.specs.Report.{Answer}
 use Rattle.rbc_steps.specs.Module.{ModuleModel, Exchange, exchange, Reply, replied, answer_of, run, replied_to, commanded}
-use Rattle.rbc_steps.specs.Calls.{Command, asked}
-use Rattle.rbc_steps.specs.Writes.{added, added_count}
+use Rattle.rbc_steps.specs.Work.{work_done}
 use Rattle.rbc_steps.specs.Refusals.{RefusalKeeps}
 use Rattle.rbc_steps.specs.Limits.{Limits, Flushed}
 use Rattle.rbc_steps.proofs.Refusing.{refusal_keeps}
-use Rattle.rbc_steps.proofs.WithinLimits.{call_limits, make_flushes}
+use Rattle.rbc_steps.proofs.WithinLimits.{within_limits, make_flushes}
 
 module _ {M : Type 0} {steps : Steps M} {meaning : M → Meaning} {good : M → Type 0} (K : Keeps steps meaning good) where
   -- the three clauses of COMMAND
@@ -22,22 +21,19 @@ module _ {M : Type 0} {steps : Steps M} {meaning : M → Meaning} {good : M → 
       → record {
         value : replied a (exchange w' d') ≡ commanded steps h cdb out (exchange w d);
         refusals : RefusalKeeps steps h (exchange w d) (replied a (exchange w' d'));
-        limits : Limits (meaning w.store) (added (asked h cdb out) a (steps.power w.store)) (added_count (asked h cdb out) a (steps.power w.store)) (meaning w'.store);
+        limits : Limits (meaning w.store) (work_done w.unit cdb out a (steps.power w.store)) a (meaning w'.store);
       }
   promised h cdb out {d} {w} g e =
       record {
         value = e;
         refusals = subst (RefusalKeeps steps h (exchange w d)) (sym e) (refusal_keeps steps h cdb out (exchange w d));
         limits =
-            subst
-            (λ (r : Reply (Exchange M)).
-            Limits (meaning w.store) (added (asked h cdb out) r.answer (steps.power w.store)) (added_count (asked h cdb out) r.answer (steps.power w.store))
-            (meaning r.after.target.store))
-            (sym e) (call_limits steps meaning good K w g (Command (record { host = h; cdb = cdb; data_out = out; data_in = d })));
+            subst (λ (r : Reply (Exchange M)). Limits (meaning w.store) (work_done w.unit cdb out r.answer (steps.power w.store)) r.answer (meaning r.after.target.store)) (sym e)
+            (within_limits steps meaning good K w g h cdb out d);
       }
 
-  pub flushed : {m m' : M} {r : Outcome (Unit {0})} → good m → stepped r m' ≡ steps.flush m → Flushed (meaning m) (meaning m')
-  flushed {m} g e = subst (λ (r : Stepped (Unit {0}) M). Flushed (meaning m) (meaning r.after)) (sym e) (make_flushes steps meaning good K m g)
+  pub flushed : {m m' : M} → good m → m' ≡ (steps.flush m).after → Flushed (meaning m) (meaning m')
+  flushed {m} g e = subst (λ (s : M). Flushed (meaning m) (meaning s)) (sym e) (make_flushes steps meaning good K m g)
 
 -- a command that passes the ladder, and what it then does
 pub ran :

@@ -58,6 +58,9 @@ carried_same {n} {rows} {m} {m'} t c s =
           picked = λ h. subst (λ (l : Line). Picked k (rows b) (contents l)) (sym e) (t.picked (omega (arith, s.grant)));
         }
 
+same_then : {m m₁ m₂ : Meaning} → Same m m₁ → Same m₁ m₂ → Same m m₂
+same_then s t = record { count = t.count ∙ s.count; grant = t.grant ∙ s.grant; line = λ b h. t.line b (omega (arith, s.count)) ∙ s.line b h }
+
 choose : (n : ℕ) (P : ℕ → ℕ → Type 0) → ((b : ℕ) → b < n → (k : ℕ) × P b k) → (f : ℕ → ℕ) × ((b : ℕ) → b < n → P b (f b))
 choose n P h = (λ b. pick b (dec_lt b n), λ b l. fits b (dec_lt b n) l)
   where
@@ -332,11 +335,12 @@ module _ {M : Type 0} (steps : Steps M) (meaning : M → Meaning) (good : M → 
     pub record Reads (k : ℕ) (d : List ℕ) (r : Stepped (Unit {0}) (Buffered M)) : Type 0 where
       pub done : r.answer ≡ Ok tt
       pub runs : Runs {A = Unit {0}} rows s t rows 0 (stepped (Ok tt) r.after.store)
+      pub same : Same (meaning s) (meaning r.after.store)
       pub bytes : r.after.data_in ≡ latest_of rows a k ++ drop (512 * k) d
       pub sized : length (latest_of rows a k) ≡ 512 * k
 
     pub reads_run : (k : ℕ) (d : List ℕ) → a + k ≤ n → Reads k d (read_blocks steps a k (buffered s d))
-    reads_run zero d h = record { done = refl; runs = ran_none t tt l; bytes = refl; sized = refl }
+    reads_run zero d h = record { done = refl; runs = ran_none t tt l; same = same_refl (meaning s); bytes = refl; sized = refl }
     reads_run (suc k) d h =
         let i : a + k < n = omega arith in
         let r = reads_run k d (omega arith) in
@@ -360,6 +364,7 @@ module _ {M : Type 0} (steps : Steps M) (meaning : M → Meaning) (good : M → 
           runs =
               ran_then rows 0 (stepped {A = Unit {0}} (Ok tt) m.store) (λ _ s'. stepped {A = Unit {0}} (Ok tt) (steps.read s' (a + k)).after) (stays rows) r.runs
               (λ u p. ran_still t' (stepped (Ok tt) after) (tt {0}) live.count live.on (K.read_good m.store (a + k) live.safe) refl read.1);
+          same = same_then r.same read.1;
           bytes = ap (λ (d' : List ℕ). placed d' (512 * k) x) r.bytes ∙ placed_more k (latest_of rows a k) x d r.sized size;
           sized = length-append (latest_of rows a k) x ∙ omega (arith, size, r.sized);
         })

@@ -138,7 +138,7 @@ module _ {M : Type 0} (steps : Steps M) (meaning : M → Meaning) (good : M → 
             lost = λ e p. let q = r.done in let z : ◌≡◌ {A = ℕ} 0 1 = cc in absurd (omega arith);
           }
 
-      ran : (o : Order) → in_range (steps.count w.store) o ≡ true → supplied o ≡ true → RanIn (rows_of rows o) (puts_of o) (run steps h o x)
+      pub ran : (o : Order) → in_range (steps.count w.store) o ≡ true → supplied o ≡ true → RanIn (rows_of rows o) (puts_of o) (run steps h o x)
       ran test_unit_ready i g = unwritten (run steps h test_unit_ready x) (still 0 w.unit d)
       ran (inquiry v p a) i g = unwritten (run steps h (inquiry v p a) x) (still (min a 36) w.unit (run steps h (inquiry v p a) x).after.data_in)
       ran (mode_select k list) i g = unwritten (run steps h (mode_select k list) x) (ran_returning 0 d (run_select steps h (selected list) w) (unit_selected h (selected list)))

@@ -19,10 +19,6 @@ pub data Call : Type 0 where
   Command : Request → Call
   Reset : Call
 
--- COMMAND by what it asks for, whatever data-in holds
-abbrev pub asked : ℕ → List ℕ → List ℕ → Call
-asked host cdb out = Command (record { host = host; cdb = cdb; data_out = out; data_in = [] })
-
 pub record Event : Type 0 where
   pub call : Call
   pub answer : Answer

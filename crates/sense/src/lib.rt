@@ -58,7 +58,7 @@ pub enum CommandError {
 // The count of bytes put at the front of data-in, or why not.
 pub type Answer = Result<u32, CommandError>;
 
-// What the host is told, each field as the number that the rules name.
+// What the host is told, each field as its number.
 #[derive(Clone, Copy, PartialEq, Eq, Debug)]
 pub struct Report {
     pub number: u8,
@@ -139,7 +139,7 @@ impl Attention {
 }
 
 impl CommandError {
-    // The number, status and sense data of each error. The numbers are those that the rules name.
+    // The number, status and sense data of each error.
     pub fn report(self) -> Report
         ensures { result ≡ error_report self }
     {
@@ -179,7 +179,7 @@ impl From<Answer> for Report {
     }
 }
 
-// The number of an answer, as the rules of COMMAND name it: 0 good, and one for each error.
+// The number of an answer: 0 good, and one for each error.
 pub fn number(answer: Answer) -> u8
     ensures { result ≡ (report answer).number }
 {

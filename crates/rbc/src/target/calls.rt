@@ -2,8 +2,7 @@
 ghost use Rattle.std.specs.Prelude.{◌≡◌};
 ghost use Rattle.rbc_steps.specs.Module.{exchange, replied, answer_of, commanded, reset, made_over};
 ghost use Rattle.rbc_steps.specs.Refusals.{RefusalKeeps};
-ghost use Rattle.rbc_steps.specs.Writes.{added, added_count};
-ghost use Rattle.rbc_steps.specs.Calls.{asked};
+ghost use Rattle.rbc_steps.specs.Work.{work_done};
 ghost use Rattle.rbc_steps.specs.Limits.{Limits, Flushed};
 ghost use Rattle.run_law.specs.Law.{RunsSafely};
 ghost use Rattle.rbc.specs.Modeled.{modeled};
@@ -24,12 +23,19 @@ fn answer_of(outcome: Result<u32, StoreError>) -> Answer
     outcome.map_err(|_| CommandError::PowerOff)
 }
 
+// What the pile holds is flushed, whatever that answers.
+fn flush_pile<S: Store>(store: &mut S)
+    ensures { S.Store.model store.new ≡ (S.Store.steps.flush (S.Store.model store.old)).after }
+{
+    let _ = store.flush();
+}
+
 impl<S: Store> Module<S> {
     // COMMAND: the ladder, and then what the command does. Data-in past the count of the answer is left as it is.
     pub fn command(&mut self, host: u32, cdb: &[u8], data_out: &[u8], data_in: &mut [u8]) -> Answer
         ensures value { replied result (exchange (modeled S.Store.model self.new) data_in.new) ≡ commanded S.Store.steps host cdb.now data_out.now (exchange (modeled S.Store.model self.old) data_in.old) }
         ensures refusals { RefusalKeeps S.Store.steps host (exchange (modeled S.Store.model self.old) data_in.old) (replied result (exchange (modeled S.Store.model self.new) data_in.new)) }
-        ensures limits { Limits (S.Store.meaning (S.Store.model self.old.device.store)) (added (asked host cdb.now data_out.now) result (S.Store.steps.power (S.Store.model self.old.device.store))) (added_count (asked host cdb.now data_out.now) result (S.Store.steps.power (S.Store.model self.old.device.store))) (S.Store.meaning (S.Store.model self.new.device.store)) }
+        ensures limits { Limits (S.Store.meaning (S.Store.model self.old.device.store)) (work_done self.old.device.unit cdb.now data_out.now result (S.Store.steps.power (S.Store.model self.old.device.store))) result (S.Store.meaning (S.Store.model self.new.device.store)) }
     {
         let power = self.device.store.power();
         let count = self.device.store.count();
@@ -70,7 +76,7 @@ impl<S: Store> Module<S> {
         ensures law { RunsSafely S.Store.steps S.Store.meaning (modeled S.Store.model result) }
     {
         let mut store = store;
-        let _ = store.flush();
+        flush_pile(&mut store);
         let unit = LogicalUnit::new();
         Module {
             device: Device { store, unit },

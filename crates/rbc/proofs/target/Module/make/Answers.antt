@@ -12,9 +12,9 @@ returns g c =
     let s = g.S.Store in
     let keeps = g.met.S.Store.keeps in
     let valid = g.met.S.Store.valid c.args.store in
-    let made : modeled s.model (record { device = record { store = c.flush.new.self; unit = c.new-unit.result } }) ≡ made_over s.steps (s.model c.args.store) = search rules in
+    let made : modeled s.model (record { device = record { store = c.flush_pile.new.store; unit = c.new-unit.result } }) ≡ made_over s.steps (s.model c.args.store) = search rules in
     record {
       value = made;
-      flushed = flushed keeps valid c.flush.ensures;
+      flushed = flushed keeps valid c.flush_pile.ensures;
       law = subst (RunsSafely s.steps s.meaning) (sym made) (runs_safely s.steps s.meaning s.good keeps (s.model c.args.store) valid);
     }
