@@ -5,6 +5,7 @@ use pile_runs::{calls_of, data_in_for, play_with};
 use recorder_options::Options;
 use session::Call;
 use std::alloc::Global;
+use std::fmt;
 use std::io;
 use std::io::{BufWriter, Write};
 
@@ -44,25 +45,57 @@ impl Cut {
     }
 }
 
+// A number, with blanks in front up to the width.
+#[derive(Clone, Copy)]
+struct Cell {
+    number: usize,
+    width: u32,
+}
+
+fn digits(number: usize) -> u32 {
+    number.checked_ilog10().map_or(1, |log| log + 1)
+}
+
+impl fmt::Display for Cell {
+    fn fmt<W: fmt::Write>(&self, f: &mut fmt::Formatter<W>) -> fmt::Result {
+        let Cell { number, width } = *self;
+        for _ in digits(number)..width {
+            f.write_str(" ")?;
+        }
+        write!(f, "{number}")
+    }
+}
+
 // The columns side by side: a row of grants, and a row for each block.
 fn print_columns<W: Write + Drop>(
     out: &mut W,
+    width: u32,
     written: &[FoundBlock],
     cuts: &[Cut],
 ) -> io::Result<()> {
     write!(out, "\ngrant         ")?;
     for cut in cuts {
-        write!(out, " {:>3}", cut.grant)?;
+        let number = cut.grant as usize;
+        write!(out, " {}", Cell { number, width })?;
     }
     writeln!(out)?;
     for (row, block) in written.iter().enumerate() {
         write!(out, "block {:>8}", block.block)?;
         for cut in cuts {
-            write!(out, " {:>3}", cut.numbers.get(row).copied().unwrap_or(0))?;
+            let number = cut.numbers.get(row).copied().unwrap_or(0);
+            write!(out, " {}", Cell { number, width })?;
         }
         writeln!(out)?;
     }
     Ok(())
+}
+
+// Wide enough for each number of the map.
+fn width_of(stores: u32, written: &[FoundBlock]) -> u32 {
+    written
+        .iter()
+        .map(|block| digits(block.numbers.latest))
+        .fold(digits(stores as usize), |widest: u32, width| widest.max(width))
 }
 
 pub fn play_and_map(rt: &HostRuntime, options: &Options) -> anyhow::Result<()> {
@@ -76,10 +109,11 @@ pub fn play_and_map(rt: &HostRuntime, options: &Options) -> anyhow::Result<()> {
     write!(out, "{whole}")?;
     let mut cuts = Vec::new(heap);
     let stores = whole.totals.stores;
+    let width = width_of(stores, &whole.blocks);
     for grant in 1..=stores {
         cuts.push(Cut::at(heap, options, &calls, &whole.blocks, grant)?)?;
         if cuts.len() == COLUMNS as usize || grant == stores {
-            print_columns(&mut out, &whole.blocks, &cuts)?;
+            print_columns(&mut out, width, &whole.blocks, &cuts)?;
             cuts.clear();
         }
     }
