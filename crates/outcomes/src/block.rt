@@ -39,7 +39,10 @@ impl FoundBlock {
         let mut medium = medium.reopened();
         for block in 0..medium.count() {
             let row = book.row(block);
-            if let (false, Ok(content)) = (row.is_empty(), medium.read(block)) {
+            if row.is_empty() {
+                continue;
+            }
+            if let Ok(content) = medium.read(block) {
                 let numbers = Numbers::of(row, &content);
                 found.push(FoundBlock {
                     block,

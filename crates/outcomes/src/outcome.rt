@@ -1,5 +1,6 @@
 // What a run left, to be told in lines: the replies, the block stores made, what is held, and what is found on the medium.
-ghost use Rattle.std.specs.Prelude.{◌≡◌, ℕ, ◌<◌, [], IfOk, map, nat_lt, length};
+ghost use Rattle.std.specs.Prelude.{◌≡◌, ℕ, ◌<◌, [], ◌&&◌, not, ◌==◌, IfOk, map, nat_lt, length};
+ghost use Rattle.sense.specs.Report.{number};
 ghost use Rattle.session.specs.Sessions.{call_of};
 ghost use Rattle.piles.specs.Bottoms.{bottom_meaning, counted, granted};
 ghost use Rattle.book.specs.Rows.{row};
@@ -12,7 +13,7 @@ use crate::line::ReplyLine;
 use crate::totals::Totals;
 use book::Book;
 use pile_runs::Run;
-use sense::CommandError;
+use sense::{Answer, CommandError};
 use session::{Call, Reply};
 use std::alloc::{AllocError, Global};
 use std::fmt;
@@ -65,9 +66,20 @@ fn book_of<'a>(
     let mut power = grant > 0;
     for (call, reply) in calls.iter().zip(replies) {
         book.enter(*call, reply.answer, power)?;
-        power = power && reply.answer != Err(CommandError::PowerOff);
+        power = power_after(reply.answer, power);
     }
     Ok(book)
+}
+
+// Power goes with the first answer that tells of its loss.
+fn power_after(answer: Answer, power: bool) -> bool
+    ensures { result ≡ (power && not (number answer == 2)) }
+{
+    match answer {
+        Ok(_) => power,
+        Err(CommandError::PowerOff) => false,
+        Err(_) => power,
+    }
 }
 
 // The lines after the replies.
