@@ -36,7 +36,7 @@ impl FoundBlock {
         ensures { IfOk result (λ found. map found_view found.items ≡ found_below (λ b. ((bottom_meaning medium).line b).first) (row book.now.rows.items) (counted medium)) }
     {
         let mut found = Vec::new(heap);
-        let mut medium = medium.reopened();
+        let mut medium = medium.reopened()?;
         for block in 0..medium.count() {
             let row = book.row(block);
             if row.is_empty() {
