@@ -27,9 +27,9 @@ pub rows_more :
 rows_more rows rows' power calls replies i b c r h k p q e =
     rows_at (map call_of (drop (i + 1) calls)) (map answer_of_reply (drop (i + 1) replies)) rows' (λ x. rows x ++ added (call_of c) r.answer power x) _ b e
     ∙ sym
-        (ap₂ (λ (cs : List Given) (rs : List Reply). rows_after rows power (map call_of cs) (map answer_of_reply rs) b)
-          (drop_more calls i c h ∙ ap (λ (x : Given). x ∷ drop (i + 1) calls) (sym p))
-          (drop_more replies i r k ∙ ap (λ (x : Reply). x ∷ drop (i + 1) replies) (sym q)))
+    (ap₂ (λ (cs : List Given) (rs : List Reply). rows_after rows power (map call_of cs) (map answer_of_reply rs) b)
+    (drop_more calls i c h ∙ ap (λ (x : Given). x ∷ drop (i + 1) calls) (sym p))
+    (drop_more replies i r k ∙ ap (λ (x : Reply). x ∷ drop (i + 1) replies) (sym q)))
 
 unanswered : (rows : Rows) (power : Bool) (cs : List Call) (b : ℕ) → rows_after rows power cs [] b ≡ rows b
 unanswered rows power [] b = refl

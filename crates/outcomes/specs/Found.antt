@@ -1,5 +1,5 @@
 -- What is found on a medium after a run: the blocks that were written, and the numbers of their contents.
-use Rattle.std.specs.Prelude.{ℕ, zero, suc, Bool, true, false, cond, ◌&&◌, not, List, [], ◌∷◌, ◌++◌, length, ◌==◌}
+use Rattle.std.specs.Prelude.{ℕ, zero, suc, Bool, cond, ◌&&◌, not, List, [], ◌∷◌, ◌++◌, length, ◌==◌}
 use Rattle.store.specs.Steps.{Content}
 use Rattle.sense.specs.Report.{Answer, number}
 use Rattle.rbc_steps.specs.Calls.{Call}

@@ -28,11 +28,7 @@ pub struct FoundBlock {
 
 impl FoundBlock {
     // The blocks with contents in the book, as they are found on the medium at the next power-on.
-    pub fn all(
-        heap: Global,
-        medium: Bottom,
-        book: &Book<'_>,
-    ) -> Result<Vec<FoundBlock>, AllocError>
+    pub fn all(heap: Global, medium: Bottom, book: &Book<'_>) -> Result<Vec<FoundBlock>, AllocError>
         ensures { IfOk result (λ found. map found_view found.items ≡ found_below (λ b. ((bottom_meaning medium).line b).first) (row book.now.rows.items) (counted medium)) }
     {
         let mut found = Vec::new(heap);

@@ -28,12 +28,7 @@ pub struct Outcome {
 
 impl Outcome {
     // What the run of these calls left, with this grant of block stores.
-    pub fn of(
-        heap: Global,
-        grant: u32,
-        calls: &[Call<'_>],
-        run: Run,
-    ) -> Result<Outcome, AllocError>
+    pub fn of(heap: Global, grant: u32, calls: &[Call<'_>], run: Run) -> Result<Outcome, AllocError>
         ensures { IfOk result (OutcomeOf grant (map call_of calls.now) run) }
     {
         let Run {

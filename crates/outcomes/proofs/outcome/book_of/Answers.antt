@@ -1,9 +1,7 @@
-use Rattle.std.proofs.Common.{◌≡◌, ℕ, ◌+◌, ◌<◌, Bool, [], ◌∷◌, ◌++◌, map, length, nat_lt, vec_items, refl, sym, ap, ◌∙◌, arith, rules}
+use Rattle.std.proofs.Common.{◌≡◌, ℕ, ◌+◌, Bool, length, vec_items, sym, ap, ◌∙◌, arith, rules}
 use Rattle.std.proofs.lemmas.List.{length_push}
 use Rattle.std.proofs.lemmas.Slice.Zip.{zip_turn, zip_end}
-use Rattle.session.specs.Sessions.{call_of}
 use Rattle.book.specs.Rows.{row}
-use Rattle.outcomes.specs.Views.{answer_of_reply}
 use Rattle.outcomes.proofs.Entries.{rows_after_rest, rows_more, rows_end}
 use Rattle.outcomes.proofs.outcome.book_of.Goals as goal
 
@@ -18,12 +16,14 @@ loop-call-preserved c =
     let reply = c.in-Some.reply.now in
     let i = length c.loop-call.yielded in
     let grown = c.in_ok-enter.ensures in
-    let long : length (vec_items c.loop-call.book.rows) ≡ c.args.blocks = c.loop-call.invariant.0 in
-    (grown.0 ∙ long, λ b h.
-      ap (λ (n : ℕ). rows_after_rest rows' c.power_after-power.result calls replies n b) (length_push c.loop-call.yielded (c.in-Some.call, c.in-Some.reply))
-      ∙ ap (λ (p : Bool). rows_after_rest rows' p calls replies (i + 1) b) c.power_after-power.ensures
-      ∙ rows_more rows rows' c.loop-call.power calls replies i b call reply turn.0 turn.1 (turn.2 call) (turn.3 reply) (grown.1 b (omega (arith, long)))
-      ∙ c.loop-call.invariant.1 b h)
+    let long : length (vec_items c.loop-call.book.rows) ≡ c.args.blocks = c.loop-call.invariant.0 in (
+      grown.0 ∙ long,
+      λ b h.
+          ap (λ (n : ℕ). rows_after_rest rows' c.power_after-power.result calls replies n b) (length_push c.loop-call.yielded (c.in-Some.call, c.in-Some.reply))
+          ∙ ap (λ (p : Bool). rows_after_rest rows' p calls replies (i + 1) b) c.power_after-power.ensures
+          ∙ rows_more rows rows' c.loop-call.power calls replies i b call reply turn.0 turn.1 (turn.2 call) (turn.3 reply) (grown.1 b (omega (arith, long)))
+          ∙ c.loop-call.invariant.1 b h,
+    )
 
 pub returns : goal.returns
 returns c =
