@@ -1,7 +1,7 @@
 // A block that was written, and what is found there.
-ghost use Rattle.std.specs.Prelude.{◌≡◌, IfOk, map, replicate, not};
+ghost use Rattle.std.specs.Prelude.{◌≡◌, ◌<◌, IfOk, map, replicate, not};
 ghost use Rattle.std.specs.Str.{bytes_eq};
-ghost use Rattle.piles.specs.Bottoms.{bottom_meaning, counted};
+ghost use Rattle.piles.specs.Bottoms.{bottom_meaning, counted, granted};
 ghost use Rattle.book.specs.Rows.{row};
 ghost use Rattle.outcomes.specs.Found.{found_below};
 ghost use Rattle.outcomes.specs.Views.{found_view};
@@ -31,8 +31,20 @@ impl FoundBlock {
     pub fn all(heap: Global, medium: Bottom, book: &Book<'_>) -> Result<Vec<FoundBlock>, AllocError>
         ensures { IfOk result (λ found. map found_view found.items ≡ found_below (λ b. ((bottom_meaning medium).line b).first) (row book.now.rows.items) (counted medium)) }
     {
+        FoundBlock::read_written(heap, medium.reopened()?, book)
+    }
+
+    // The same of a medium with power on.
+    fn read_written(
+        heap: Global,
+        medium: Bottom,
+        book: &Book<'_>,
+    ) -> Result<Vec<FoundBlock>, AllocError>
+        requires { 0 < granted medium }
+        ensures { IfOk result (λ found. map found_view found.items ≡ found_below (λ b. ((bottom_meaning medium).line b).first) (row book.now.rows.items) (counted medium)) }
+    {
         let mut found = Vec::new(heap);
-        let mut medium = medium.reopened()?;
+        let mut medium = medium;
         for block in 0..medium.count() {
             let row = book.row(block);
             if row.is_empty() {

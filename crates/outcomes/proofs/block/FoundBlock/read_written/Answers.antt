@@ -6,22 +6,22 @@ use Rattle.piles.specs.Bottoms.{bottom_meaning, granted, counted}
 use Rattle.book.specs.Rows.{row}
 use Rattle.outcomes.specs.Views.{found_view}
 use Rattle.outcomes.proofs.Blocks.{found_next}
-use Rattle.outcomes.proofs.block.FoundBlock.all.Goals as goal
-use Rattle.outcomes.proofs.block.FoundBlock.all.Goals.{in-Ok+in_ok-push, in_default}
+use Rattle.outcomes.proofs.block.FoundBlock.read_written.Goals as goal
+use Rattle.outcomes.proofs.block.FoundBlock.read_written.Goals.{in-Ok+in_ok-push, in_default}
 
 abbrev content : Bor (List ℕ) → List ℕ
 content x = x.now
 
 pub loop-block-preserved : goal.loop-block-preserved
 loop-block-preserved c =
-    let medium = bottom_meaning c.reopened-medium.result in
+    let medium = bottom_meaning c.args.medium in
     let b = c.loop-block.block in
     let contents = map content c.row-row.result.now in
     let same : bottom_meaning c.loop-block.medium ≡ medium = c.loop-block.invariant.0 in
-    let power : granted c.loop-block.medium ≡ 1 = ap (λ (m : Meaning). m.grant) (same ∙ c.reopened-medium.ensures) in
-    let count : counted c.loop-block.medium ≡ counted c.reopened-medium.result = ap (λ (m : Meaning). m.count) same in
+    let power : granted c.loop-block.medium ≡ granted c.args.medium = ap (λ (m : Meaning). m.grant) same in
+    let count : counted c.loop-block.medium ≡ counted c.args.medium = ap (λ (m : Meaning). m.count) same in
     let read : c.read.result ≡ Ok (medium.line b).first =
-    c.read.ensures.0 (omega (arith, power)) (omega (arith, count, c.loop-block-test.true, c.count-block-end.ensures)) ∙ ap (λ (m : Meaning). Ok (m.line b).first) same in
+    c.read.ensures.0 (omega (arith, power, c.requires)) (omega (arith, count, c.loop-block-test.true, c.count-block-end.ensures)) ∙ ap (λ (m : Meaning). Ok (m.line b).first) same in
     let long = length-map c.row-row.result.now content in
     let some : (length contents == 0) ≡ false = ap (λ (n : ℕ). n == 0) long ∙ sym c.is_empty.ensures ∙ c.if-is_empty.false in (
       c.read.ensures.1 ∙ same,

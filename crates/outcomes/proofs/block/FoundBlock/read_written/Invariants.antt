@@ -3,7 +3,7 @@ use Rattle.piles.specs.Bottoms.{bottom_meaning}
 use Rattle.book.specs.Rows.{row}
 use Rattle.outcomes.specs.Found.{found_below}
 use Rattle.outcomes.specs.Views.{found_view}
-use Rattle.outcomes.proofs.block.FoundBlock.all.Given as goal
+use Rattle.outcomes.proofs.block.FoundBlock.read_written.Given as goal
 
 abbrev pub invariant-loop-block : goal.invariant-loop-block
 invariant-loop-block l =
