@@ -18,14 +18,14 @@ use Rattle.logical_unit.specs.State.{started, settings_changed, flushes_first}
 use Rattle.transfer.specs.Transfer.{buffered, put_forced, read_blocks, write_blocks, verify_block, verify_blocks}
 use Rattle.rbc_steps.specs.Module.{ModuleModel, joined, Exchange, exchange, on_store, then_unit, returning, flushed_if, run_select, run}
 use Rattle.rbc_steps.specs.Writes.{Rows, piece}
-use Rattle.rbc_steps.specs.Work.{Work, no_work, one_flush, flush_if, sets_wcd, work}
+use Rattle.rbc_steps.specs.Work.{Work, no_work, one_flush, flush_if, writing, verifying, sets_wcd, work}
 use Rattle.rbc_steps.specs.Limits.{Moved}
 use Rattle.rbc_steps.proofs.Growth.{grown_none, length_chunked, chunk}
 use Rattle.rbc_steps.proofs.Lines.{Picked, only, kept}
 use Rattle.rbc_steps.proofs.Stores.{Tracked, Live, reads_run}
 use Rattle.rbc_steps.proofs.Turns.{returned_unit}
 use Rattle.rbc_steps.proofs.Works.{upto, followed_none, moved_none, Reached, reached, reaches}
-use Rattle.rbc_steps.proofs.WorkTurns.{writing, verifying, marked_none, write_turn, verify_turn, flush_turn, write_moves, verify_moves}
+use Rattle.rbc_steps.proofs.WorkTurns.{marked_none, write_turn, verify_turn, flush_turn, write_moves, verify_moves}
 
 picked_all : (x : Content) (xs : List Content) → Picked 0 (x ∷ xs) (x ∷ xs)
 picked_all x [] = only

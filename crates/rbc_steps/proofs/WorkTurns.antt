@@ -11,7 +11,7 @@ use Rattle.store.proofs.Guards.{same_refl}
 use Rattle.store.proofs.Moving.{rests, moves_both, next_keeps}
 use Rattle.transfer.specs.Transfer.{put_forced, verify_block}
 use Rattle.rbc_steps.specs.Writes.{piece, added_to}
-use Rattle.rbc_steps.specs.Work.{Work, one_flush, one_of_blocks}
+use Rattle.rbc_steps.specs.Work.{one_flush, one_of_blocks, writing, verifying}
 use Rattle.rbc_steps.proofs.Growth.{grown_step}
 use Rattle.rbc_steps.proofs.Works.{followed_none, IsTurn}
 
@@ -50,13 +50,6 @@ module _ (v : Bool) (a k b : ℕ) where
 -- at the start no block is marked
 pub marked_none : (v : Bool) (a b : ℕ) → marked v a 0 b ≡ false
 marked_none v a b = false_from_ne_true (marked v a 0 b) (λ e. let p = marks v a 0 b e in omega (arith, p.1.0, p.1.1))
-
--- a WRITE of n blocks from block a on, which forces each if v says so
-abbrev pub writing : Bool → ℕ → ℕ → List ℕ → Work
-writing v a n bytes = record { turns = n; puts = λ k. k; written = λ k b. added_to b a k bytes; clean = λ k b. marked v a k b }
-
-abbrev pub verifying : ℕ → ℕ → Work
-verifying a n = record { turns = n; puts = λ k. 0; written = λ k b. []; clean = λ k b. one_of_blocks b a k }
 
 abbrev pub put_at : ℕ → Content → ℕ → List Content
 put_at c x b = cond (eqb b c) (x ∷ []) []

@@ -34,6 +34,14 @@ flush_if v = cond v one_flush no_work
 abbrev pub one_of_blocks : ℕ → ℕ → ℕ → Bool
 one_of_blocks b a n = nat_le a b && nat_lt b (a + n)
 
+-- n blocks from block a on, each forced once it is put if v says so
+abbrev pub writing : Bool → ℕ → ℕ → List ℕ → Work
+writing v a n bytes = record { turns = n; puts = λ k. k; written = λ k b. added_to b a k bytes; clean = λ k b. v && one_of_blocks b a k }
+
+-- n blocks from block a on, each forced
+abbrev pub verifying : ℕ → ℕ → Work
+verifying a n = record { turns = n; puts = λ k. 0; written = λ k b. []; clean = λ k b. one_of_blocks b a k }
+
 -- are these settings to set WCD from 0 to 1?
 abbrev pub sets_wcd : LogicalUnit → Option Settings → Bool
 sets_wcd u None = false
@@ -44,9 +52,8 @@ sets_wcd u (Some p) = p.wcd && not u.settings.wcd
 abbrev pub work : LogicalUnit → Order → Work
 work u (mode_select n l) = flush_if (sets_wcd u (selected l))
 work u (start_stop p s l) = flush_if (flushes_first p s)
-work u (write r f a n d) =
-    record { turns = n; puts = λ k. k; written = λ k b. added_to b a k d; clean = λ k b. (f || u.settings.wcd) && one_of_blocks b a k }
-work u (verify r a n) = record { turns = n; puts = λ k. 0; written = λ k b. []; clean = λ k b. one_of_blocks b a k }
+work u (write r f a n d) = writing (f || u.settings.wcd) a n d
+work u (verify r a n) = verifying a n
 work u synchronize_cache = flush_if true
 work u _ = no_work
 
