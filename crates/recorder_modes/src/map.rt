@@ -5,9 +5,8 @@ use pile_runs::{calls_of, data_in_for, play_with};
 use recorder_options::Options;
 use session::Call;
 use std::alloc::Global;
-use std::fmt;
-use std::io;
 use std::io::{BufWriter, Write};
+use std::{fmt, io};
 
 // so many columns stand side by side
 const COLUMNS: u32 = 40;
@@ -95,7 +94,10 @@ fn width_of(stores: u32, written: &[FoundBlock]) -> u32 {
     written
         .iter()
         .map(|block| digits(block.numbers.latest))
-        .fold(digits(stores as usize), |widest: u32, width| widest.max(width))
+        .fold(
+            digits(stores as usize),
+            |widest: u32, width| widest.max(width),
+        )
 }
 
 pub fn play_and_map(rt: &HostRuntime, options: &Options) -> anyhow::Result<()> {

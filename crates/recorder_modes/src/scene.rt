@@ -19,7 +19,8 @@ const PILE: [&str; 7] = [
     "13",
 ];
 
-const SCRIPT: &str = "# A service plug looks at the module: INQUIRY, TEST UNIT READY, READ CAPACITY, MODE SENSE.
+const SCRIPT: &str =
+    "# A service plug looks at the module: INQUIRY, TEST UNIT READY, READ CAPACITY, MODE SENSE.
 command 2 120000002400
 command 2 000000000000
 command 2 25000000000000000000
