@@ -1,6 +1,6 @@
 // The numbers of a block's contents.
 ghost use Rattle.std.specs.Prelude.{◌≡◌, map, length};
-ghost use Rattle.book.specs.Numbers.{Newest};
+ghost use Rattle.book.specs.Numbers.{newest_equal, Newest};
 
 use std::fmt;
 
@@ -12,24 +12,21 @@ pub struct Numbers {
     pub latest: usize,
 }
 
-// The newest number in a row whose content is the one found, 0 if none of them is.
-fn newest_number(row: &[&[u8]], found: &[u8]) -> usize
-    ensures { Newest found.now (map (λ x. x.now) row.now) result }
-{
-    match row.iter().rposition(|content| *content == found) {
-        Some(i) => i + 1,
-        None => 0,
-    }
-}
-
 impl Numbers {
     // The numbers of a content that is found, in a block's row.
     pub fn of(row: &[&[u8]], found: &[u8]) -> Numbers
-        ensures found { Newest found.now (map (λ x. x.now) row.now) result.found }
+        ensures found { result.found ≡ newest_equal found.now (map (λ x. x.now) row.now) }
+        ensures newest { Newest found.now (map (λ x. x.now) row.now) result.found }
         ensures latest { result.latest ≡ length row.now }
     {
+        let mut newest = 0;
+        for (i, content) in row.iter().enumerate() {
+            if *content == found {
+                newest = i + 1;
+            }
+        }
         Numbers {
-            found: newest_number(row, found),
+            found: newest,
             latest: row.len(),
         }
     }
