@@ -1,5 +1,5 @@
 -- A run over a store in state m: the replies, the law, and what is found on the medium.
-use Rattle.std.specs.Prelude.{◌≡◌, ℕ, List, map, length, vec_items}
+use Rattle.std.specs.Prelude.{◌≡◌, List, map, length, vec_items}
 use Rattle.store.specs.Steps.{Steps}
 use Rattle.store.specs.Meaning.{Meaning}
 use Rattle.rbc_steps.specs.Module.{made_over}

@@ -1,4 +1,4 @@
-use Rattle.std.proofs.Common.{rules, sym}
+use Rattle.std.proofs.Common.{sym}
 use Rattle.pile_runs.proofs.setup.play_with.Goals as goal
 
 pub returns : goal.returns
