@@ -1,0 +1,115 @@
+// The cases: calls of a store, and then commands to a module over it.
+ghost use Rattle.std.specs.Prelude.{◌≤◌};
+
+use crate::blocks::{random, rising, shuffled};
+use crate::cdbs::{READ, TEST_UNIT_READY, WRITE, cdbs};
+use crate::passes::{command_all, put_all, read_all, synchronize_all};
+use crate::timing::time;
+use anyhow::ensure;
+use piles::{Pile, Task};
+use rbc::Module;
+use std::alloc::Global;
+use store::{BLOCK_BYTES, Store};
+
+// the blocks of the longest command
+pub const LONGEST: u32 = 128;
+
+// what the timed puts of a store put
+const PUT: [u8; BLOCK_BYTES] = [2; BLOCK_BYTES];
+
+// Each of so many blocks is put once, so that a card is full, and then the cases are timed.
+#[derive(Drop)]
+pub struct TimeCases<'a> {
+    pub rt: &'a HostRuntime,
+    pub blocks: u32,
+    pub ghost enough: { 128 ≤ blocks },
+}
+
+impl Task for TimeCases<'_> {
+    type Output = anyhow::Result<()>;
+
+    // nothing is promised of what is timed
+    ghost gives = { λ task steps meaning state output. Unit {0} };
+
+    fn run<S: Pile>(self, pile: S) -> anyhow::Result<()> {
+        let TimeCases { rt, blocks } = self;
+        let heap = rt.alloc();
+        let mut pile = pile;
+        put_all(&mut pile, &shuffled(heap, blocks)?, &[1; BLOCK_BYTES])?;
+        time_puts(rt, "put-random", &mut pile, &random(heap, blocks, 1)?)?;
+        time_puts(rt, "put-rising", &mut pile, &rising(heap, blocks, 1)?)?;
+        time_reads(rt, "read-random", &mut pile, &random(heap, blocks, 1)?)?;
+        time_reads(rt, "read-rising", &mut pile, &rising(heap, blocks, 1)?)?;
+        let mut module = Module::make(pile);
+        // the answer is the unit attention
+        let _ = module.command(0, &TEST_UNIT_READY, &[], &mut []);
+        time_writes(rt, "write-1", &mut module, &random(heap, blocks, 1)?, 1)?;
+        time_writes(rt, "write-8", &mut module, &random(heap, blocks, 8)?, 8)?;
+        time_writes(rt, "write-128", &mut module, &rising(heap, blocks, 128)?, 128)?;
+        time_read_commands(rt, "read-128", &mut module, &rising(heap, blocks, 128)?, 128)?;
+        time_synchronized(rt, "sync-8", &mut module, &random(heap, blocks, 8)?, 8)
+    }
+}
+
+// A buffer for the bytes of so many blocks.
+fn buffer(heap: Global, byte: u8, length: u16) -> anyhow::Result<Vec<u8>> {
+    Ok(vec![in heap; byte; usize::from(length) * BLOCK_BYTES]?)
+}
+
+fn time_puts<S: Store>(
+    rt: &HostRuntime,
+    case: &str,
+    store: &mut S,
+    blocks: &[u32],
+) -> anyhow::Result<()> {
+    time(rt, case, || put_all(store, blocks, &PUT))
+}
+
+fn time_reads<S: Store>(
+    rt: &HostRuntime,
+    case: &str,
+    store: &mut S,
+    blocks: &[u32],
+) -> anyhow::Result<()> {
+    let mut content = [0; BLOCK_BYTES];
+    time(rt, case, || read_all(store, blocks, &mut content))?;
+    // a compiler could leave out reads whose content nobody looks at
+    ensure!(content == PUT, "a read shows what was not put");
+    Ok(())
+}
+
+fn time_writes<S: Store>(
+    rt: &HostRuntime,
+    case: &str,
+    module: &mut Module<S>,
+    starts: &[u32],
+    length: u16,
+) -> anyhow::Result<()> {
+    let cdbs = cdbs(rt.alloc(), WRITE, starts, length)?;
+    let data_out = buffer(rt.alloc(), 3, length)?;
+    time(rt, case, || command_all(module, &cdbs, &data_out, &mut []))
+}
+
+fn time_read_commands<S: Store>(
+    rt: &HostRuntime,
+    case: &str,
+    module: &mut Module<S>,
+    starts: &[u32],
+    length: u16,
+) -> anyhow::Result<()> {
+    let cdbs = cdbs(rt.alloc(), READ, starts, length)?;
+    let mut data_in = buffer(rt.alloc(), 0, length)?;
+    time(rt, case, || command_all(module, &cdbs, &[], &mut data_in))
+}
+
+fn time_synchronized<S: Store>(
+    rt: &HostRuntime,
+    case: &str,
+    module: &mut Module<S>,
+    starts: &[u32],
+    length: u16,
+) -> anyhow::Result<()> {
+    let cdbs = cdbs(rt.alloc(), WRITE, starts, length)?;
+    let data_out = buffer(rt.alloc(), 4, length)?;
+    time(rt, case, || synchronize_all(module, &cdbs, &data_out))
+}
