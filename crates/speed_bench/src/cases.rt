@@ -1,5 +1,5 @@
 // The cases: calls of a store, and then commands to a module over it.
-ghost use Rattle.std.specs.Prelude.{◌≤◌};
+ghost use Rattle.std.specs.Prelude.{◌≡◌, ◌*◌, ◌≤◌, vec_len, IfOk};
 
 use crate::blocks::{random, rising, shuffled};
 use crate::cdbs::{READ, TEST_UNIT_READY, WRITE, cdbs};
@@ -14,8 +14,8 @@ use store::{BLOCK_BYTES, Store};
 // the blocks of the longest command
 pub const LONGEST: u32 = 128;
 
-// what the timed puts of a store put
-const PUT: [u8; BLOCK_BYTES] = [2; BLOCK_BYTES];
+// the byte that the timed puts of a store put
+const PUT: u8 = 2;
 
 // Each of so many blocks is put once, so that a card is full, and then the cases are timed.
 #[derive(Drop)]
@@ -45,14 +45,28 @@ impl Task for TimeCases<'_> {
         let _ = module.command(0, &TEST_UNIT_READY, &[], &mut []);
         time_writes(rt, "write-1", &mut module, &random(heap, blocks, 1)?, 1)?;
         time_writes(rt, "write-8", &mut module, &random(heap, blocks, 8)?, 8)?;
-        time_writes(rt, "write-128", &mut module, &rising(heap, blocks, 128)?, 128)?;
-        time_read_commands(rt, "read-128", &mut module, &rising(heap, blocks, 128)?, 128)?;
+        time_writes(
+            rt,
+            "write-128",
+            &mut module,
+            &rising(heap, blocks, 128)?,
+            128,
+        )?;
+        time_read_commands(
+            rt,
+            "read-128",
+            &mut module,
+            &rising(heap, blocks, 128)?,
+            128,
+        )?;
         time_synchronized(rt, "sync-8", &mut module, &random(heap, blocks, 8)?, 8)
     }
 }
 
 // A buffer for the bytes of so many blocks.
-fn buffer(heap: Global, byte: u8, length: u16) -> anyhow::Result<Vec<u8>> {
+fn buffer(heap: Global, byte: u8, length: u16) -> anyhow::Result<Vec<u8>>
+    ensures { IfOk result (λ bytes. vec_len bytes ≡ length * 512) }
+{
     Ok(vec![in heap; byte; usize::from(length) * BLOCK_BYTES]?)
 }
 
@@ -62,7 +76,10 @@ fn time_puts<S: Store>(
     store: &mut S,
     blocks: &[u32],
 ) -> anyhow::Result<()> {
-    time(rt, case, || put_all(store, blocks, &PUT))
+    let data = buffer(rt.alloc(), PUT, 1)?;
+    // from memory: what a compiler knows it would not copy
+    let content = data.first_chunk().unwrap();
+    time(rt, case, || put_all(store, blocks, content))
 }
 
 fn time_reads<S: Store>(
@@ -74,7 +91,10 @@ fn time_reads<S: Store>(
     let mut content = [0; BLOCK_BYTES];
     time(rt, case, || read_all(store, blocks, &mut content))?;
     // a compiler could leave out reads whose content nobody looks at
-    ensure!(content == PUT, "a read shows what was not put");
+    ensure!(
+        content == [PUT; BLOCK_BYTES],
+        "a read shows what was not put"
+    );
     Ok(())
 }
 

@@ -4,8 +4,11 @@ use std::alloc::{AllocError, Global};
 pub type Cdb = [u8; 10];
 
 pub const READ: u8 = 0x28;
+
 pub const WRITE: u8 = 0x2a;
+
 pub const TEST_UNIT_READY: [u8; 6] = [0; 6];
+
 pub const SYNCHRONIZE_CACHE: Cdb = [0x35, 0, 0, 0, 0, 0, 0, 0, 0, 0];
 
 fn cdb(opcode: u8, start: u32, length: u16) -> Cdb {
@@ -15,11 +18,9 @@ fn cdb(opcode: u8, start: u32, length: u16) -> Cdb {
 }
 
 // Those of commands on so many blocks each, from each of the starts on.
-pub fn cdbs(
-    heap: Global,
-    opcode: u8,
-    starts: &[u32],
-    length: u16,
-) -> Result<Vec<Cdb>, AllocError> {
-    starts.iter().map(|&start| cdb(opcode, start, length)).collect(heap)
+pub fn cdbs(heap: Global, opcode: u8, starts: &[u32], length: u16) -> Result<Vec<Cdb>, AllocError> {
+    starts
+        .iter()
+        .map(|&start| cdb(opcode, start, length))
+        .collect(heap)
 }

@@ -20,9 +20,17 @@ prints for each case: its name, how many blocks were timed, the nanoseconds that
 
 fn time_pile(rt: &HostRuntime, options: &Options) -> anyhow::Result<()> {
     let Options { blocks, grant, .. } = *options;
-    ensure!(blocks >= LONGEST, "a WRITE of {LONGEST} blocks wants as many");
+    ensure!(
+        blocks >= LONGEST,
+        "a WRITE of {LONGEST} blocks wants as many"
+    );
     let medium = new_medium(rt.alloc(), medium_kind(options), blocks, grant)?;
-    with_pile(rt.alloc(), medium, &options.caches, TimeCases { rt, blocks })?
+    with_pile(
+        rt.alloc(),
+        medium,
+        &options.caches,
+        TimeCases { rt, blocks },
+    )?
 }
 
 fn main(rt: HostRuntime) -> anyhow::Result<()> {

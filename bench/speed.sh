@@ -1,0 +1,81 @@
+#!/bin/sh
+# Times calls of stores and commands of the module over five piles, beside the same work in plain Rust (bench/plain) and
+# beside memcpy, all in one run, and prints a table with ratios. Wants rt and cargo. Takes some six minutes once both are
+# built.
+#
+# usage: speed.sh [ROUNDS]    the median of so many rounds is taken, 5 by default
+set -eu
+
+top=$(cd "$(dirname "$0")/.." && pwd)
+rounds=${1-5}
+work=$(mktemp -d)
+trap 'rm -rf "$work"' EXIT
+
+# rt compiles for x86-64-v2, and so does cargo here
+(cd "$top/crates/speed_bench" && rt run -- --help) > "$work/log" 2>&1 || {
+    cat "$work/log" >&2
+    exit 1
+}
+RUSTFLAGS='-C target-cpu=x86-64-v2' cargo build --release --offline --quiet --manifest-path "$top/bench/plain/Cargo.toml"
+proved=$top/crates/speed_bench/out/speed_bench
+plain=$top/bench/plain/target/release/speed
+
+# The lines of one program, in the form: PILE MEMORY SIDE CASE, ns a block.
+noted() {
+    awk -v at="$1 $2 $3" '{ print at, $1, $3 / $2 }' >> "$work/times"
+}
+
+# One round over a pile: on a full card of so many pages, or a flat medium of as many blocks.
+measure() {
+    case $1 in
+    card*) blocks=$(($2 - 1)) pages="--pages $2" ;;
+    *) blocks=$2 pages= ;;
+    esac
+    # shellcheck disable=SC2086
+    "$proved" "$1" --blocks "$blocks" $pages --grant 4294967295 | noted "$1" "$2" proved
+    "$plain" "$1" "$blocks" | noted "$1" "$2" plain
+}
+
+for _ in $(seq "$rounds"); do
+    for size in 1000 100000; do
+        "$plain" memcpy "$size" | noted memcpy "$size" memcpy
+        for pile in flat flat+table flat+queue card card+queue+table; do
+            measure "$pile" "$size"
+        done
+    done
+done
+
+# The median of each.
+sort -k 1,4 -k 5,5n "$work/times" | awk -v rounds="$rounds" '
+    NR % rounds == int((rounds + 1) / 2) % rounds { print }
+' > "$work/medians"
+
+echo "$(date -u +%Y-%m-%d), $(nproc) cores, $(sed -n 's/^model name.*: //p' /proc/cpuinfo | head -n 1); medians of $rounds rounds"
+awk '
+    { ns[$1, $2, $3, $4] = $5 }
+    function rate(ns) { return sprintf("%.2f", 1000 / ns) }
+    END {
+        piles = split("flat flat+table flat+queue card card+queue+table", pile)
+        cases = split("put-random put-rising read-random read-rising write-1 write-8 write-128 read-128 sync-8", name)
+        worst = 0
+        for (s = 1; s <= 2; s++) {
+            size = s == 1 ? 1000 : 100000
+            for (p = 1; p <= piles; p++) {
+                printf "\n%s, %d %s:\n\n", pile[p], size, pile[p] ~ /card/ ? "pages" : "blocks"
+                print "| case | proved | plain Rust | memcpy | plain / proved | memcpy / proved |"
+                print "|---|---|---|---|---|---|"
+                for (c = 1; c <= cases; c++) {
+                    proved = ns[pile[p], size, "proved", name[c]]
+                    plain = ns[pile[p], size, "plain", name[c]]
+                    memory = ns["memcpy", size, "memcpy", name[c]]
+                    ratio = proved / plain
+                    if (pile[p] == "flat" && name[c] == "write-128" && ratio > flat) flat = ratio
+                    if (ratio > 2) slow = slow sprintf("\n  %s, %d, %s: %.2f", pile[p], size, name[c], ratio)
+                    printf "| %s | %s | %s | %s | %.2f | %.2f |\n", name[c], rate(proved), rate(plain), rate(memory), ratio, proved / memory
+                }
+            }
+        }
+        printf "\nflat, write-128: at most %.2f times as long as plain Rust, where 1.25 is the goal\n", flat
+        printf "cases of more than 2.00 times as long as plain Rust: %s\n", slow == "" ? "none" : slow
+    }
+' "$work/medians"
