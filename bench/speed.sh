@@ -1,7 +1,7 @@
 #!/bin/sh
 # Times calls of stores and commands of the module over five piles, beside the same work in plain Rust (bench/plain) and
 # beside memcpy, all in one run. Prints for each case how many times as long as plain Rust and as memcpy it takes, and in
-# brackets millions of blocks a second. No buffer is cleared between calls. Wants rt and cargo. Takes some seven minutes
+# brackets millions of blocks a second. No buffer is cleared between calls. Wants rt and cargo. Takes some four minutes
 # once both are built.
 #
 # usage: speed.sh [ROUNDS]    the median of so many rounds is taken, 5 by default
