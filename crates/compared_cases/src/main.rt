@@ -2,7 +2,7 @@
 // found on the medium. A line `case ORDER [options]` begins a case; the lines until the next one are its script.
 #![tactic(auto)]
 
-use anyhow::anyhow;
+use anyhow::{Context, anyhow};
 use outcomes::Outcome;
 use pile_runs::{calls_of, data_in_for, play_with};
 use recorder_options::{Asked, Options, parse};
@@ -11,10 +11,10 @@ use std::alloc::Global;
 use std::io;
 use std::io::{BufWriter, Read, Write};
 
-// The words of a case's first line.
+// What the words behind `case` ask for.
 fn options_of(heap: Global, line: &str) -> anyhow::Result<Options> {
     let mut words = Vec::new(heap);
-    for word in line.split_whitespace().skip(1) {
+    for word in line.split_whitespace() {
         words.push(String::from_str(heap, word)?)?;
     }
     match parse(heap, &words)? {
@@ -23,31 +23,25 @@ fn options_of(heap: Global, line: &str) -> anyhow::Result<Options> {
     }
 }
 
+// A case: its words, and behind them its script.
 fn play_case<W: Write + Drop>(heap: Global, out: &mut W, case: &str) -> anyhow::Result<()> {
-    let (first, script) = case.split_once('\n').unwrap_or((case, ""));
-    let options = options_of(heap, first)?;
+    let (words, script) = case.split_once('\n').unwrap_or((case, ""));
+    let options = options_of(heap, words)?;
     let lines = parse_script(heap, script.as_bytes())?;
     let data_in = data_in_for(heap, &lines)?;
     let calls = calls_of(heap, &lines, &data_in)?;
     let run = play_with(heap, &options, options.grant, &calls)?;
     let outcome = Outcome::of(heap, options.grant, &calls, run)?;
-    write!(out, "{first}\n{outcome}")?;
+    write!(out, "case {words}\n{outcome}")?;
     Ok(())
-}
-
-// Where the next case begins, behind the first.
-fn case_end(text: &str) -> usize {
-    text.find("\ncase ").map_or(text.len(), |at| at + 1)
 }
 
 fn play_cases(rt: &HostRuntime, text: &str) -> anyhow::Result<()> {
     let heap = rt.alloc();
     let mut out = BufWriter::new(heap, io::writer(rt))?;
-    let mut rest = text;
-    while !rest.is_empty() {
-        let (case, others) = rest.split_at(case_end(rest));
+    let cases = text.strip_prefix("case ").context("expected a case")?;
+    for case in cases.split("\ncase ") {
         play_case(heap, &mut out, case)?;
-        rest = others;
     }
     Ok(out.flush()?)
 }

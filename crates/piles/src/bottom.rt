@@ -45,6 +45,7 @@ impl Bottom {
             Bottom::Card(card) => Ok(Bottom::Card(FlashCard::new(card.into_memory(), count, 1)?)),
         }
     }
+
     // What stands at the block, where power is on.
     pub fn read(&mut self, block: u32) -> Result<[u8; BLOCK_BYTES], StoreError>
         ensures { Shows self.old block result self.new }

@@ -2,6 +2,7 @@
 pub const HELP: &str = "usage: recorder ORDER [--blocks N] [--pages N] [--grant N] [--map | --serve]
 
 Plays a script of calls on a recorder module over a pile, and prints each reply and what is then found on the medium.
+Without words it plays a scene of its own, to a power cut.
 
 ORDER names the pile from the bottom: flat or card, then up to three of table and queue, joined by +, as
 card+queue+table: a table cache over a queue cache over a flash card.
