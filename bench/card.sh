@@ -52,7 +52,7 @@ line() {
 clone_before
 build "$work/before"
 build "$top"
-echo "$(date -u +%Y-%m-%d), $(nproc) cores; in brackets how many calls were timed"
+echo "$(date -u +%Y-%m-%d), $(nproc --all) cores; in brackets how many calls were timed"
 echo
 echo '| pages | put before | put now | read before | read now | making now |'
 echo '|---|---|---|---|---|---|'
