@@ -1,0 +1,5 @@
+pub mod Premises
+pub mod Runs
+pub mod Commands
+pub mod Shifts
+pub mod StoreCalls
