@@ -2,4 +2,5 @@ pub mod Premises
 pub mod Runs
 pub mod Commands
 pub mod Shifts
+pub mod AfterCommands
 pub mod StoreCalls

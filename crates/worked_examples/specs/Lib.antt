@@ -4,3 +4,4 @@ pub mod RunScenes
 pub mod CommandScenes
 pub mod ShiftScenes
 pub mod Further
+pub mod AfterCommands

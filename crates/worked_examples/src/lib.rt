@@ -2,6 +2,7 @@
 #![tactic(auto)]
 
 ghost use Rattle.worked_examples.specs.Examples.{Examples};
+ghost use Rattle.worked_examples.specs.AfterCommands.{AfterCommands};
 ghost use Rattle.worked_examples.specs.Further.{FurtherExamples};
 ghost use Rattle.worked_examples.specs.StoreCalls.{StaysWithin};
 
@@ -16,6 +17,11 @@ pub fn examples_hold()
 // Further ones do: what stands in the premises of laws, what is counted, and what no reply shows.
 pub fn further_examples_hold()
     ensures { FurtherExamples }
+{}
+
+// What the limits of each COMMAND come to: what then stands on the medium, and what is shown.
+pub fn limits_say_what_stands()
+    ensures { AfterCommands }
 {}
 
 // A cache of any kind over any store holds only blocks below the count, whatever is called on it.
