@@ -2,7 +2,7 @@
 use Rattle.std.proofs.Common.{◌≡◌, ◌≢◌, ℕ, ◌+◌, ◌-◌, ◌*◌, ◌/◌, ◌%◌, ◌^◌, ◌<◌, ◌≤◌, min, Bool, true, false, eqb, List, length, replicate, get_or, set, Some, None, bit_and, bit_or, w64, sym, ap, ◌∙◌, arith, ⊎_elim}
 use Rattle.std.specs.Int.{bit_at, bit_not, trailing_zeros}
 use Rattle.std.proofs.lemmas.Bool.{eq-eqb, ne_eqb, cases_eq, cases_lt}
-use Rattle.std.proofs.lemmas.List.{ext_get_or, length-set, length-replicate, get_or-set_same, get_or-set_other, get_or-replicate, get_or_past}
+use Rattle.std.proofs.lemmas.List.{ext_get_or, length-set, length-replicate, get_or-set_same, get_or-set_other, get_or-replicate, get_or_past, get_or_read}
 use Rattle.std.proofs.lemmas.List.FromFn.{length-map-range_with_len, get_or-map-range_with_len}
 use Rattle.std.proofs.lemmas.Nat.{shr-shr, shr_le}
 use Rattle.std.proofs.lemmas.Nat.Bits.{bit_at-zero, bit_at_above, bit_at-trailing_zeros, bit_at_set_same, bit_at_set_other, bit_at_clear_same, bit_at_clear_other}
@@ -86,79 +86,102 @@ module _
       other_bit i e ∙ sym (get_or-set_other (row n words) place i mark false e ∙ get_or-row n words i h))
       (cases_eq i place))
 
--- bit `place` is set, or cleared, in its word, which was read as v
+-- marks that are the first n bits of words, and one place among them
 module _
-    (n : ℕ) (words : List ℕ) (place v : ℕ) (here : place < n) (room : n ≤ length words * 64)
-    (read : v ≡ get_or words (place / 64) 0) where
-  index : place % 64 < 64
-  index = omega arith
+    (n : ℕ) (words : List ℕ) (marks : List Bool) (place : ℕ) (view : row n words ≡ marks) (room : n ≤ length words * 64)
+    (within : place < length marks) where
+  here : place < n
+  here = let e = length-row n words in let f = ap length view in omega arith
 
-  pub row_marked : row n (set words (place / 64) (bit_or v (1 * 2 ^ (place % 64) % 2 ^ 64))) ≡ set (row n words) place true
-  row_marked =
-      row_set n words place (bit_or v (1 * 2 ^ (place % 64) % 2 ^ 64)) here room
-      (λ i l differs. bit_at_set_other w64 v (place % 64) index i differs ∙ ap (λ w. bit_at w i) read)
-      true
-      (marked (bit_at (bit_or v (1 * 2 ^ (place % 64) % 2 ^ 64)) (place % 64)) (bit_at_set_same w64 v (place % 64) index))
+  pub word_within : place / 64 < length words
+  word_within = let h = here in omega arith
 
-  pub row_cleared : row n (set words (place / 64) (bit_and v (bit_not w64 (1 * 2 ^ (place % 64) % 2 ^ 64)))) ≡ set (row n words) place false
-  row_cleared =
-      row_set n words place (bit_and v (bit_not w64 (1 * 2 ^ (place % 64) % 2 ^ 64))) here room
-      (λ i l differs. bit_at_clear_other w64 v (place % 64) index i l differs ∙ ap (λ w. bit_at w i) read)
-      false
-      (unmarked (bit_at (bit_and v (bit_not w64 (1 * 2 ^ (place % 64) % 2 ^ 64))) (place % 64)) (bit_at_clear_same w64 v (place % 64) index))
+  -- the word of the place was read as v
+  module _ (v : ℕ) (found : v ≡ get_or words (place / 64) v) where
+    read : v ≡ get_or words (place / 64) 0
+    read = get_or_read words (place / 64) v word_within found 0
 
--- no bit of a word that is zero is set
-pub empty_word :
-    (n : ℕ) (words : List ℕ) (place k : ℕ) → get_or words (place / 64) 0 ≡ 0 → k / 64 ≡ place / 64 → get_or (row n words) k false ≡ false
-empty_word n words place k empty same =
-    ⊎_elim
-    (λ (l : k < n).
-    get_or-row n words k l
-    ∙ unmarked (bit_at (get_or words (k / 64) 0) (k % 64))
-    (ap (λ j. bit_at (get_or words j 0) (k % 64)) same ∙ ap (λ w. bit_at w (k % 64)) empty ∙ bit_at-zero (k % 64)))
-    (λ (l : n ≤ k). get_or_past (row n words) k false (let e = length-row n words in omega arith))
-    (cases_lt k n)
+    index : place % 64 < 64
+    index = omega arith
 
--- the word of `start`, read as v, is shifted down so that the bit of `start` is the lowest
+    pub row_marked : row n (set words (place / 64) (bit_or v (1 * 2 ^ (place % 64) % 2 ^ 64))) ≡ set marks place true
+    row_marked =
+        row_set n words place (bit_or v (1 * 2 ^ (place % 64) % 2 ^ 64)) here room
+        (λ i l differs. bit_at_set_other w64 v (place % 64) index i differs ∙ ap (λ w. bit_at w i) read)
+        true
+        (marked (bit_at (bit_or v (1 * 2 ^ (place % 64) % 2 ^ 64)) (place % 64)) (bit_at_set_same w64 v (place % 64) index))
+        ∙ ap (λ m. set m place true) view
+
+    pub row_cleared : row n (set words (place / 64) (bit_and v (bit_not w64 (1 * 2 ^ (place % 64) % 2 ^ 64)))) ≡ set marks place false
+    row_cleared =
+        row_set n words place (bit_and v (bit_not w64 (1 * 2 ^ (place % 64) % 2 ^ 64))) here room
+        (λ i l differs. bit_at_clear_other w64 v (place % 64) index i l differs ∙ ap (λ w. bit_at w i) read)
+        false
+        (unmarked (bit_at (bit_and v (bit_not w64 (1 * 2 ^ (place % 64) % 2 ^ 64))) (place % 64)) (bit_at_clear_same w64 v (place % 64) index))
+        ∙ ap (λ m. set m place false) view
+
+    -- no bit of a word that is zero is set
+    pub empty_word : v ≡ 0 → (k : ℕ) → k / 64 ≡ place / 64 → get_or marks k false ≡ false
+    empty_word empty k same =
+        ap (λ m. get_or m k false) (sym view)
+        ∙ ⊎_elim
+        (λ (l : k < n).
+        get_or-row n words k l
+        ∙ unmarked (bit_at (get_or words (k / 64) 0) (k % 64))
+        (ap (λ j. bit_at (get_or words j 0) (k % 64)) same ∙ ap (λ w. bit_at w (k % 64)) (sym read ∙ empty) ∙ bit_at-zero (k % 64)))
+        (λ (l : n ≤ k). get_or_past (row n words) k false (let e = length-row n words in omega arith))
+        (cases_lt k n)
+
+-- A search from place `start`, whose word was read as v and is shifted down so that this place's bit is the lowest.
 module _
-    (n : ℕ) (words : List ℕ) (start end v : ℕ) (some : start < end) (within : end ≤ n)
-    (read : v ≡ get_or words (start / 64) 0) (small : v < 2 ^ 64) where
+    (n : ℕ) (words : List ℕ) (marks : List Bool) (start end v : ℕ) (view : row n words ≡ marks) (room : n ≤ length words * 64)
+    (some : start < end) (within : end ≤ length marks) (found : v ≡ get_or words (start / 64) v) (small : v < 2 ^ 64) where
   abbrev rest : ℕ
   rest = v / 2 ^ (start % 64)
 
   abbrev word_end : ℕ
   word_end = start / 64 * 64 + 64
 
+  below : end ≤ n
+  below = let e = length-row n words in let f = ap length view in omega arith
+
+  known : v ≡ get_or words (start / 64) 0
+  known = read n words marks start view room (omega arith) v found
+
   shifted : (j : ℕ) → bit_at rest j ≡ bit_at v (start % 64 + j)
   shifted j = ap (λ m. m % 2) (shr-shr v (start % 64) j)
 
-  bit_from : (k : ℕ) → start ≤ k → k < word_end → bit_at (get_or words (k / 64) 0) (k % 64) ≡ bit_at rest (k - start)
-  bit_from k a b =
+  mark_at : (k : ℕ) → start ≤ k → k < min end word_end → get_or marks k false ≡ eqb (bit_at rest (k - start)) 1
+  mark_at k a b =
+      let e = below in
+      let h : k < n = omega arith in
       let same : k / 64 ≡ start / 64 = omega arith in
       let place : k % 64 ≡ start % 64 + (k - start) = omega arith in
-      ap (λ j. bit_at (get_or words j 0) (k % 64)) same
-      ∙ ap (λ w. bit_at w (k % 64)) (sym read)
-      ∙ ap (bit_at v) place
-      ∙ sym (shifted (k - start))
+      ap (λ m. get_or m k false) (sym view)
+      ∙ get_or-row n words k h
+      ∙ ap (λ j. eqb (bit_at (get_or words j 0) (k % 64)) 1) same
+      ∙ ap (λ w. eqb (bit_at w (k % 64)) 1) (sym known)
+      ∙ ap (λ i. eqb (bit_at v i) 1) place
+      ∙ sym (ap (λ b. eqb b 1) (shifted (k - start)))
 
-  clear_from : (k : ℕ) → start ≤ k → k < min end word_end → bit_at rest (k - start) ≡ 0 → get_or (row n words) k false ≡ false
-  clear_from k a b e =
-      let low : k < word_end = omega arith in
-      let h : k < n = omega arith in
-      get_or-row n words k h ∙ unmarked (bit_at (get_or words (k / 64) 0) (k % 64)) (bit_from k a low ∙ e)
+  clear_at : (k : ℕ) → start ≤ k → k < min end word_end → bit_at rest (k - start) ≡ 0 → get_or marks k false ≡ false
+  clear_at k a b e = mark_at k a b ∙ unmarked (bit_at rest (k - start)) e
 
-  pub none_in_word : rest ≡ 0 → FirstMarked (row n words) start (min end word_end) None
-  none_in_word empty k a b = clear_from k a b (ap (λ w. bit_at w (k - start)) empty ∙ bit_at-zero (k - start))
+  pub none_in_word : rest ≡ 0 → FirstMarked marks start (min end word_end) None
+  none_in_word empty k a b = clear_at k a b (ap (λ w. bit_at w (k - start)) empty ∙ bit_at-zero (k - start))
 
-  module _ (t : ℕ) (nonzero : 0 < rest) (lowest : t ≡ trailing_zeros w64 rest) where
+  module _ (nonzero : 0 < rest) where
+    abbrev t : ℕ
+    t = trailing_zeros w64 rest
+
     fits : rest < 2 ^ 64
     fits = let l = shr_le v (start % 64) in omega arith
 
     bit_here : bit_at rest t ≡ 1
-    bit_here = ap (bit_at rest) lowest ∙ (bit_at-trailing_zeros w64 rest nonzero fits).1
+    bit_here = (bit_at-trailing_zeros w64 rest nonzero fits).1
 
     bits_before : (j : ℕ) → j < t → bit_at rest j ≡ 0
-    bits_before j l = (bit_at-trailing_zeros w64 rest nonzero fits).2 j (omega arith)
+    bits_before = (bit_at-trailing_zeros w64 rest nonzero fits).2
 
     pub in_word : start + t < word_end
     in_word =
@@ -170,18 +193,15 @@ module _
         absurd (omega arith))
         (cases_lt (start % 64 + t) 64)
 
-    pub found_in_word : start + t < end → FirstMarked (row n words) start (min end word_end) (Some (start + t))
+    pub found_in_word : start + t < end → FirstMarked marks start (min end word_end) (Some (start + t))
     found_in_word before =
         let low : start + t < word_end = in_word in
-        let h : start + t < n = omega arith in
         let here : (start + t) - start ≡ t = omega arith in (
           omega arith,
           omega arith,
-          get_or-row n words (start + t) h
-              ∙ marked (bit_at (get_or words ((start + t) / 64) 0) ((start + t) % 64))
-              (bit_from (start + t) (omega arith) low ∙ ap (bit_at rest) here ∙ bit_here),
-          λ k a b. clear_from k a (omega arith) (bits_before (k - start) (omega arith)),
+          mark_at (start + t) (omega arith) (omega arith) ∙ marked (bit_at rest ((start + t) - start)) (ap (bit_at rest) here ∙ bit_here),
+          λ k a b. clear_at k a (omega arith) (bits_before (k - start) (omega arith)),
         )
 
-    pub found_past : end ≤ start + t → FirstMarked (row n words) start (min end word_end) None
-    found_past past k a b = clear_from k a b (bits_before (k - start) (omega arith))
+    pub found_past : end ≤ start + t → FirstMarked marks start (min end word_end) None
+    found_past past k a b = clear_at k a b (bits_before (k - start) (omega arith))

@@ -1,5 +1,5 @@
 -- What the card keeps beside its bytes, and how it follows from them.
-use Rattle.std.specs.Prelude.{◌≡◌, ℕ, ◌+◌, ◌*◌, ◌/◌, ◌<◌, ◌≤◌, Bool, true, false, cond, List, length, Option, MatchOption, ◌==◌, ◌≢◌, nat_lt, slice_index_or}
+use Rattle.std.specs.Prelude.{◌≡◌, ℕ, ◌*◌, ◌/◌, ◌<◌, ◌≤◌, Bool, true, false, cond, List, length, Option, MatchOption, ◌==◌, ◌≢◌, nat_lt, slice_index_or}
 use Rattle.flash_card.specs.Card.{pages, owner, first_page, free, disown_first}
 
 -- of the marks from place i to n, the one at r is the first that is set

@@ -1,18 +1,13 @@
-use Rattle.std.proofs.Common.{◌≡◌, ◌/◌, ◌<◌, length, get_or, ap, arith}
-use Rattle.std.proofs.lemmas.List.{get_or_read}
-use Rattle.flash_card.proofs.Words.{length-row, row_cleared}
+use Rattle.std.proofs.Common.{arith}
+use Rattle.flash_card.proofs.Words.{word_within, row_cleared}
 use Rattle.flash_card.proofs.bits.Bits.clear.Goals as goal
 
 pub index_mut-requires : goal.index_mut-requires
 index_mut-requires c =
     let b = c.self.inside in
-    omega (arith, length-row b.count b.words.items, ap length c.self.view_is, b.words.ok.0, c.self.invariant)
+    omega (arith, word_within b.count b.words.items c.args.self.now c.args.place c.self.view_is c.self.invariant c.requires, b.words.ok.0)
 
 pub returns : goal.returns
 returns c =
     let b = c.self.inside in
-    let words = b.words.items in
-    let here : c.args.place < b.count = omega (arith, length-row b.count words, ap length c.self.view_is) in
-    let read : c.index_mut.result.now ≡ get_or words (c.args.place / 64) 0 =
-    get_or_read words (c.args.place / 64) c.index_mut.result.now (omega (arith, c.self.invariant)) c.index_mut.ensures.value 0 in
-    rw (← c.self.view_is) (row_cleared b.count words c.args.place c.index_mut.result.now here c.self.invariant read)
+    row_cleared b.count b.words.items c.args.self.now c.args.place c.self.view_is c.self.invariant c.requires c.index_mut.result.now c.index_mut.ensures.value
