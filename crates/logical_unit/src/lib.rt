@@ -4,6 +4,8 @@
 mod host;
 mod settings;
 mod state;
+#[cfg(test)]
+mod tests;
 
 pub use host::{HOSTS, Host};
 pub use settings::Settings;

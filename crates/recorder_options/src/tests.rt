@@ -68,6 +68,7 @@ fn errors_say_what_was_expected(rt: HostRuntime) -> Result<(), Fail> {
             r#"expected table or queue in ORDER, found "tables""#,
         ),
         ("card+", r#"expected table or queue in ORDER, found """#),
+        ("flat+", r#"expected table or queue in ORDER, found """#),
         (
             "flat+table+table+table+table",
             "expected at most three caches in ORDER",
@@ -92,10 +93,29 @@ fn errors_say_what_was_expected(rt: HostRuntime) -> Result<(), Fail> {
             "flat --grant -1",
             r#"expected a decimal number from 0 to 4294967295 after --grant, found "-1""#,
         ),
+        (
+            "flat --grant 4294967296",
+            r#"expected a decimal number from 0 to 4294967295 after --grant, found "4294967296""#,
+        ),
+        (
+            "card --pages 1",
+            r#"expected a decimal number from 2 to 4294967295 after --pages, found "1""#,
+        ),
+        (
+            "card --pages 4294967296",
+            r#"expected a decimal number from 2 to 4294967295 after --pages, found "4294967296""#,
+        ),
+        ("flat --blocks 1 --blocks 1", "--blocks is given twice"),
+        ("card --pages 12 --pages 12", "--pages is given twice"),
         ("flat --grant 1 --grant 1", "--grant is given twice"),
         ("flat --map --map", "--map is given twice"),
+        ("flat --serve --serve", "--serve is given twice"),
         (
             "flat --map --serve",
+            "--map and --serve are given, expected at most one of them",
+        ),
+        (
+            "flat --serve --map",
             "--map and --serve are given, expected at most one of them",
         ),
         (

@@ -44,6 +44,8 @@ fn error_text(heap: Global, line: &[u8]) -> Result<String, AllocError> {
 fn errors_say_what_was_expected(rt: HostRuntime) -> Result<(), Fail> {
     for (line, text) in [
         ("resets", r#"expected reset or command, found "resets""#),
+        (" # x", r##"expected reset or command, found "#""##),
+        ("reset\r", r#"expected reset or command, found "reset\r""#),
         ("reset 1", r#"expected the end of the line, found "1""#),
         (
             "command",
@@ -58,12 +60,28 @@ fn errors_say_what_was_expected(rt: HostRuntime) -> Result<(), Fail> {
             r#"expected a decimal number from 0 to 4294967295 as HOST, found "4294967296""#,
         ),
         (
+            "command x 123",
+            r#"expected a decimal number from 0 to 4294967295 as HOST, found "x""#,
+        ),
+        (
+            "command 0",
+            "expected hex digits, two for each byte, or - as CDB, found the end of the line",
+        ),
+        (
             "command 0 123",
             r#"expected hex digits, two for each byte, or - as CDB, found "123""#,
         ),
         (
+            "command 0 - out",
+            "expected hex digits, two for each byte, or BYTExCOUNT, joined by +, at most 33553920 bytes in all, as DATA, found the end of the line",
+        ),
+        (
             "command 0 - out 00x33553921",
             r#"expected hex digits, two for each byte, or BYTExCOUNT, joined by +, at most 33553920 bytes in all, as DATA, found "00x33553921""#,
+        ),
+        (
+            "command 0 - in",
+            "expected a decimal number from 0 to 33553920 as N, found the end of the line",
         ),
         (
             "command 0 - in 33553921",
@@ -79,12 +97,24 @@ fn errors_say_what_was_expected(rt: HostRuntime) -> Result<(), Fail> {
     Ok(())
 }
 
+// A byte that is not UTF-8 is told as U+FFFD.
+#[test]
+fn a_word_that_is_no_text_is_told(rt: HostRuntime) -> Result<(), Fail> {
+    let text = error_text(rt.alloc(), b"res\xffet")?;
+    assert_eq!(rt;
+        text.as_str(),
+        "expected reset or command, found \"res\u{fffd}et\""
+    );
+    Ok(())
+}
+
 #[test]
 fn the_most_data_is_read(rt: HostRuntime) -> Result<(), Fail> {
     for (line, good) in [
         ("command 0 - out 00x33553920", true),
         ("command 0 - out 00x33553919+ab", true),
         ("command 0 - out 00x33553919+abcd", false),
+        ("command 0 - in 33553920", true),
         ("command 0 - out 00x0", true),
         ("command 0 - out 00x", false),
         ("command 0 - out 00+", false),

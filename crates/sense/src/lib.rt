@@ -8,6 +8,8 @@ ghost use Rattle.sense.specs.Report.{attention_codes, error_report, report};
 use thiserror::Error;
 
 mod display;
+#[cfg(test)]
+mod tests;
 
 // A unit attention, the highest first: a pending one yields only to a higher one.
 #[derive(Clone, Copy, PartialEq, Eq, PartialOrd, Ord, Debug)]

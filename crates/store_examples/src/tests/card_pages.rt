@@ -77,3 +77,20 @@ fn two_pages_alternate(rt: HostRuntime) -> Result<(), Fail> {
     assert_eq!(rt; card.into_memory(), pages(rt.alloc(), &after)?);
     Ok(())
 }
+
+// Three pages and a part of one more: the fourth put goes round to page 0.
+#[test]
+fn bytes_past_the_last_page_stay(rt: HostRuntime) -> Result<(), Fail> {
+    let past = [0xff; 100];
+    let mut before = pages(rt.alloc(), &[free(0xff); 3])?;
+    before.extend_from_slice(&past)?;
+    FlashCard::check(&before, 2)?;
+    let mut card = FlashCard::new(before, 2, GRANT)?;
+    for byte in [20, 21, 22, 23] {
+        card.put_block(0, &filled(byte))?;
+    }
+    let mut after = pages(rt.alloc(), &[owned(0, 23), free(21), free(22)])?;
+    after.extend_from_slice(&past)?;
+    assert_eq!(rt; card.into_memory(), after);
+    Ok(())
+}

@@ -62,3 +62,39 @@ fn card_makes_its_last_store(rt: HostRuntime) -> Result<(), Fail> {
     assert_eq!(rt; card.into_memory(), pages(rt.alloc(), &after)?);
     Ok(())
 }
+
+#[test]
+fn errors_say_why_a_call_was_refused(rt: HostRuntime) -> Result<(), Fail> {
+    let mut medium = flat(rt.alloc(), &[1], 0)?;
+    for (answer, text) in [
+        (medium.flush(), "the power is off"),
+        (medium.force_block(0), "the power is off"),
+        (medium.force_block(1), "there is no such block"),
+    ] {
+        let Err(error) = answer else {
+            return Err("an error is expected".into());
+        };
+        assert_eq!(rt; error.to_string(rt.alloc())?.as_str(), text);
+    }
+    Ok(())
+}
+
+#[test]
+fn errors_say_why_memory_is_unfit(rt: HostRuntime) -> Result<(), Fail> {
+    for (answer, text) in [
+        (
+            FlatMedium::check(&[], 0),
+            "a medium has 1 to 16777216 blocks",
+        ),
+        (
+            FlatMedium::check(&[0; 511], 1),
+            "the memory is too small for the medium",
+        ),
+    ] {
+        let Err(error) = answer else {
+            return Err("an error is expected".into());
+        };
+        assert_eq!(rt; error.to_string(rt.alloc())?.as_str(), text);
+    }
+    Ok(())
+}
