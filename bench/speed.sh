@@ -52,7 +52,7 @@ sort -k 1,4 -k 5,5n "$work/times" | awk -v rounds="$rounds" '
 ' > "$work/medians"
 
 cpu=$(sed -n 's/^model name.*: //p' /proc/cpuinfo | head -n 1)
-echo "$(date -u +%Y-%m-%d), $(nproc) cores, $cpu, load $(cut -d ' ' -f 1 /proc/loadavg); medians of $rounds rounds"
+echo "$(date -u +%Y-%m-%d), $(nproc --all) cores, $cpu, load $(cut -d ' ' -f 1 /proc/loadavg); medians of $rounds rounds"
 awk '
     BEGIN {
         piles = split("flat flat+table flat+queue card card+queue+table", pile)

@@ -1,4 +1,6 @@
 pub mod Entering
 pub mod Free
 pub mod GivenUp
+pub mod Grouped
 pub mod Putting
+pub mod Words

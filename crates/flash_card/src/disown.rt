@@ -1,5 +1,5 @@
 // The pages that a block no longer shows are given to nobody, and so are free.
-ghost use Rattle.std.specs.Prelude.{◌≡◌, ℕ, ◌*◌, ◌<◌, true, false, cond, ◌==◌, ◌≢◌, slice_index, slice_index_or, slice_set, vec_len};
+ghost use Rattle.std.specs.Prelude.{◌≡◌, ℕ, ◌*◌, ◌<◌, true, false, cond, ◌==◌, ◌≢◌, length, slice_index, slice_index_or, slice_set, vec_len};
 ghost use Rattle.store.specs.Bytes.{placed, to_be32};
 ghost use Rattle.flash_card.specs.Card.{pages, owner, nobody, disown, disown_first};
 
@@ -16,15 +16,15 @@ impl Pages {
     pub fn disown_others(&mut self, tables: &mut Tables, block: u32, taken: usize)
         requires inside { block < vec_len tables.old.shown }
         requires mark { block < vec_len tables.old.stale }
-        requires room { vec_len tables.old.free.pages ≡ pages self.old.memory.items }
+        requires room { length tables.old.free.pages ≡ pages self.old.memory.items }
         requires first { let first = slice_index tables.old.shown.items block in first < pages self.old.memory.items → (first ≢ taken) × (owner self.old.memory.items first ≡ block) }
         requires single { slice_index_or tables.old.stale.items block false ≡ false → (j : ℕ) → j < pages self.old.memory.items → (j ≢ taken) → owner self.old.memory.items j ≡ block → j ≡ slice_index tables.old.shown.items block }
         ensures items { self.new.memory.items ≡ disown_first self.old.memory.items block taken (pages self.old.memory.items) }
         ensures len { vec_len self.new.memory ≡ vec_len self.old.memory }
         ensures shown { tables.new.shown.items ≡ tables.old.shown.items }
         ensures stale { tables.new.stale.items ≡ tables.old.stale.items }
-        ensures free_len { vec_len tables.new.free.pages ≡ vec_len tables.old.free.pages }
-        ensures free { (j : ℕ) → j < pages self.old.memory.items → (j ≢ taken) → slice_index_or tables.new.free.pages.items j false ≡ cond (owner self.old.memory.items j == block) true (slice_index_or tables.old.free.pages.items j false) }
+        ensures free_len { length tables.new.free.pages ≡ length tables.old.free.pages }
+        ensures free { (j : ℕ) → j < pages self.old.memory.items → (j ≢ taken) → slice_index_or tables.new.free.pages j false ≡ cond (owner self.old.memory.items j == block) true (slice_index_or tables.old.free.pages j false) }
     {
         let first = tables.shown[block as usize];
         if tables.stale[block as usize] {
@@ -37,11 +37,11 @@ impl Pages {
 
     // All of the block's pages, but for the page taken.
     fn disown_each(&mut self, free: &mut FreePages, block: u32, taken: usize)
-        requires room { vec_len free.old.pages ≡ pages self.old.memory.items }
+        requires room { length free.old.pages ≡ pages self.old.memory.items }
         ensures items { self.new.memory.items ≡ disown_first self.old.memory.items block taken (pages self.old.memory.items) }
         ensures len { vec_len self.new.memory ≡ vec_len self.old.memory }
-        ensures free_len { vec_len free.new.pages ≡ vec_len free.old.pages }
-        ensures free { (j : ℕ) → j < pages self.old.memory.items → (j ≢ taken) → slice_index_or free.new.pages.items j false ≡ cond (owner self.old.memory.items j == block) true (slice_index_or free.old.pages.items j false) }
+        ensures free_len { length free.new.pages ≡ length free.old.pages }
+        ensures free { (j : ℕ) → j < pages self.old.memory.items → (j ≢ taken) → slice_index_or free.new.pages j false ≡ cond (owner self.old.memory.items j == block) true (slice_index_or free.old.pages j false) }
     {
         // by number: of a memory lent in chunks a proof knows the length alone, as `transfer` has it
         for page in 0..self.count() {
@@ -52,10 +52,10 @@ impl Pages {
     // The page, if the block owns it and it is not the one taken.
     fn disown_page(&mut self, free: &mut FreePages, block: u32, taken: usize, page: usize)
         requires inside { page < pages self.old.memory.items }
-        requires room { page < vec_len free.old.pages }
+        requires room { page < length free.old.pages }
         ensures items { self.new.memory.items ≡ disown self.old.memory.items block taken page }
         ensures len { vec_len self.new.memory ≡ vec_len self.old.memory }
-        ensures free { free.new.pages.items ≡ cond (page == taken) free.old.pages.items (cond (owner self.old.memory.items page == block) (slice_set free.old.pages.items page true) free.old.pages.items) }
+        ensures free { free.new.pages ≡ cond (page == taken) free.old.pages (cond (owner self.old.memory.items page == block) (slice_set free.old.pages page true) free.old.pages) }
     {
         if page != taken && self.owner(page) == block {
             self.disown(page);

@@ -4,6 +4,7 @@
 ghost use Rattle.std.specs.Prelude.{◌/◌, ◌<◌, length, vec_items, vec_len};
 ghost use Rattle.flash_card.specs.Tables.{Entered};
 
+mod bits;
 mod disown;
 mod free_pages;
 mod layout;
@@ -26,5 +27,5 @@ pub struct Card {
     hand: usize,
     tables: Tables,
     ghost within: { hand < vec_len pages.memory / 516 },
-    ghost entered: { Entered (vec_items pages.memory) (length (vec_items pages.memory) / 516) (vec_items tables.shown) (vec_items tables.stale) (vec_items tables.free.pages) },
+    ghost entered: { Entered (vec_items pages.memory) (length (vec_items pages.memory) / 516) (vec_items tables.shown) (vec_items tables.stale) tables.free.pages },
 }

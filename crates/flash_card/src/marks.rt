@@ -1,72 +1,60 @@
-// A row of marks, with one more for each group of them, so that a search passes over groups that have none.
-ghost use Rattle.std.specs.Prelude.{◌≡◌, ◌<◌, ◌≤◌, false, true, length, replicate, IfOk, vec_items, vec_len, slice_set};
+// A row of bits, and a bit for each word of them that may have one set, so that a search passes over words that have none.
+ghost use Rattle.std.specs.Prelude.{◌≡◌, ◌<◌, ◌≤◌, false, true, length, replicate, IfOk, slice_set};
 ghost use Rattle.flash_card.specs.Tables.{FirstMarked, Grouped};
 
+use crate::bits::{Bits, WORD_BITS};
 use std::alloc::{AllocError, Global};
-
-// so many marks, or pages, have one group
-pub const GROUP: usize = 256;
 
 #[derive(Drop)]
 pub struct Marks {
-    pub marks: Vec<bool>,
-    // false only where none of the group is marked
-    groups: Vec<bool>,
-    ghost grouped: { Grouped (vec_items marks) (vec_items groups) },
+    pub marks: Bits,
+    words: Bits,
+    ghost grouped: { Grouped marks words },
 }
 
 impl Marks {
     // So many, none of them set.
     pub fn none(heap: Global, count: usize) -> Result<Marks, AllocError>
-        ensures { IfOk result (λ row. row.marks.items ≡ replicate count false) }
+        ensures { IfOk result (λ row. row.marks ≡ replicate count false) }
     {
-        let marks = vec![in heap; false; count]?;
-        let groups = vec![in heap; false; count / GROUP + 1]?;
-        Ok(Marks { marks, groups })
+        let marks = Bits::none(heap, count)?;
+        let words = Bits::none(heap, count / WORD_BITS + 1)?;
+        Ok(Marks { marks, words })
     }
 
     pub fn set(&mut self, place: usize)
-        requires { place < vec_len self.old.marks }
-        ensures { self.new.marks.items ≡ slice_set self.old.marks.items place true }
+        requires { place < length self.old.marks }
+        ensures { self.new.marks ≡ slice_set self.old.marks place true }
     {
-        self.marks[place] = true;
-        self.groups[place / GROUP] = true;
+        self.marks.set(place);
+        self.words.set(place / WORD_BITS);
     }
 
     pub fn clear(&mut self, place: usize)
-        requires { place < vec_len self.old.marks }
-        ensures { self.new.marks.items ≡ slice_set self.old.marks.items place false }
+        requires { place < length self.old.marks }
+        ensures { self.new.marks ≡ slice_set self.old.marks place false }
     {
-        self.marks[place] = false;
-        let group = place / GROUP;
-        let start = group * GROUP;
-        let end = start + GROUP.min(self.marks.len() - start);
-        self.groups[group] = first_marked(&self.marks, start, end).is_some();
+        self.marks.clear(place);
+        if self.marks.word_is_empty(place) {
+            self.words.clear(place / WORD_BITS);
+        }
     }
 
     // The first mark of those from `start` on and before `end`.
     pub fn first_between(&self, start: usize, end: usize) -> Option<usize>
-        requires { end ≤ vec_len self.now.marks }
-        ensures { FirstMarked self.now.marks.items start end result }
+        requires { end ≤ length self.now.marks }
+        ensures { FirstMarked self.now.marks start end result }
     {
         let mut place = start;
         while place < end {
-            let group_end = place + (GROUP - place % GROUP).min(end - place);
-            if self.groups[place / GROUP]
-                && let Some(found) = first_marked(&self.marks, place, group_end)
-            {
+            if let Some(found) = self.marks.first_in_word(place, end) {
                 return Some(found);
             }
-            place = group_end;
+            let word = self
+                .words
+                .first_between(place / WORD_BITS + 1, end.div_ceil(WORD_BITS))?;
+            place = word * WORD_BITS;
         }
         None
     }
-}
-
-// The same, mark by mark.
-pub fn first_marked(marks: &[bool], start: usize, end: usize) -> Option<usize>
-    requires { end ≤ length marks.now }
-    ensures { FirstMarked marks.now start end result }
-{
-    (start..end).find(|&place| marks[place])
 }

@@ -1,6 +1,6 @@
 // What the card keeps beside its bytes, so that no call searches the pages: which page each block shows, which blocks have
 // further pages, and which pages are free.
-ghost use Rattle.std.specs.Prelude.{◌≡◌, ◌+◌, ◌<◌, false, replicate, IfOk, slice_set, vec_len};
+ghost use Rattle.std.specs.Prelude.{◌≡◌, ◌+◌, ◌<◌, false, length, replicate, IfOk, slice_set, vec_len};
 ghost use Rattle.flash_card.specs.Card.{pages};
 ghost use Rattle.flash_card.specs.Tables.{Entered, Unmarked};
 
@@ -20,7 +20,7 @@ pub struct Tables {
 impl Tables {
     // The tables of a card with so many blocks, from one pass over its pages.
     pub fn of(heap: Global, card: &Pages, count: u32) -> Result<Tables, AllocError>
-        ensures entered { IfOk result (λ t. Entered card.now.memory.items (pages card.now.memory.items) t.shown.items t.stale.items t.free.pages.items) }
+        ensures entered { IfOk result (λ t. Entered card.now.memory.items (pages card.now.memory.items) t.shown.items t.stale.items t.free.pages) }
         ensures count { IfOk result (λ t. vec_len t.shown ≡ count) }
     {
         let mut tables = Tables::empty(heap, card.count(), count)?;
@@ -32,7 +32,7 @@ impl Tables {
 
     // The tables before any page is entered.
     fn empty(heap: Global, page_count: usize, count: u32) -> Result<Tables, AllocError>
-        ensures { IfOk result (λ t. (t.shown.items ≡ replicate count page_count) × (t.stale.items ≡ replicate count false) × (t.free.pages.items ≡ replicate page_count false)) }
+        ensures { IfOk result (λ t. (t.shown.items ≡ replicate count page_count) × (t.stale.items ≡ replicate count false) × (t.free.pages ≡ replicate page_count false)) }
     {
         let shown = vec![in heap; page_count; count as usize]?;
         let stale = vec![in heap; false; count as usize]?;
@@ -43,10 +43,10 @@ impl Tables {
     // The page after those already entered.
     fn enter(&mut self, card: &Pages, page: usize)
         requires inside { page < pages card.now.memory.items }
-        requires before { Entered card.now.memory.items page self.old.shown.items self.old.stale.items self.old.free.pages.items }
-        requires later { Unmarked page self.old.free.pages.items }
-        ensures after { Entered card.now.memory.items (page + 1) self.new.shown.items self.new.stale.items self.new.free.pages.items }
-        ensures later { Unmarked (page + 1) self.new.free.pages.items }
+        requires before { Entered card.now.memory.items page self.old.shown.items self.old.stale.items self.old.free.pages }
+        requires later { Unmarked page self.old.free.pages }
+        ensures after { Entered card.now.memory.items (page + 1) self.new.shown.items self.new.stale.items self.new.free.pages }
+        ensures later { Unmarked (page + 1) self.new.free.pages }
         ensures count { vec_len self.new.shown ≡ vec_len self.old.shown }
     {
         let owner = card.owner(page) as usize;
@@ -64,10 +64,10 @@ impl Tables {
     pub fn take(&mut self, block: u32, page: usize)
         requires block { block < vec_len self.old.shown }
         requires mark { block < vec_len self.old.stale }
-        requires page { page < vec_len self.old.free.pages }
+        requires page { page < length self.old.free.pages }
         ensures shown { self.new.shown.items ≡ slice_set self.old.shown.items block page }
         ensures stale { self.new.stale.items ≡ slice_set self.old.stale.items block false }
-        ensures free { self.new.free.pages.items ≡ slice_set self.old.free.pages.items page false }
+        ensures free { self.new.free.pages ≡ slice_set self.old.free.pages page false }
     {
         self.shown[block as usize] = page;
         self.stale[block as usize] = false;

@@ -1,3 +1,4 @@
 pub mod Found
 pub mod Totals
 pub mod Views
+pub mod LawRows

@@ -7,6 +7,7 @@ ghost use Rattle.book.specs.Rows.{row};
 ghost use Rattle.outcomes.specs.Found.{rows_after};
 ghost use Rattle.outcomes.specs.Totals.{totals};
 ghost use Rattle.outcomes.specs.Views.{OutcomeOf, answer_of_reply};
+ghost use Rattle.outcomes.specs.LawRows.{NumberedByLaw};
 
 use crate::block::FoundBlock;
 use crate::line::ReplyLine;
@@ -27,9 +28,10 @@ pub struct Outcome {
 }
 
 impl Outcome {
-    // What the run of these calls left, with this grant of block stores.
+    // What the run of these calls left, with this grant of block stores. The numbers are those of the law over runs.
     pub fn of(heap: Global, grant: u32, calls: &[Call<'_>], run: Run) -> Result<Outcome, AllocError>
-        ensures { IfOk result (OutcomeOf grant (map call_of calls.now) run) }
+        ensures outcome { IfOk result (OutcomeOf grant (map call_of calls.now) run) }
+        ensures numbers { IfOk result (NumberedByLaw grant (map call_of calls.now) run) }
     {
         let Run {
             replies,

@@ -1,2 +1,3 @@
 pub mod Reservations
 pub mod Histories
+pub mod Powers

@@ -1,1 +1,7 @@
+pub mod StoreCalls
 pub mod Examples
+pub mod RunScenes
+pub mod CommandScenes
+pub mod ShiftScenes
+pub mod Further
+pub mod AfterCommands

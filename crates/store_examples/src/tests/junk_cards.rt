@@ -153,13 +153,33 @@ fn one_block_on_two_pages(rt: HostRuntime) -> Result<(), Fail> {
     Ok(())
 }
 
-// A search for a free page passes over whole groups of 256.
+// A search for a free page passes over whole words of 64.
 #[test]
 fn more_pages_than_a_group(rt: HostRuntime) -> Result<(), Fail> {
     let mut rng = Pcg32::new(3, 3);
     let pages = junk(rt.alloc(), &mut rng, 600, 599)?;
     for puts in [1, 20, 60] {
         works_alike(rt.alloc(), 599, &pages, puts)?;
+    }
+    Ok(())
+}
+
+// So many blocks, each on the page of its number, and behind them the one page that is free.
+fn full(heap: Global, count: u32) -> Result<Vec<Page>, Fail> {
+    let mut pages = Vec::new(heap);
+    for block in 0..count {
+        pages.push(owned(block, 7))?;
+    }
+    pages.push(free(8))?;
+    Ok(pages)
+}
+
+// The search for the free page passes over whole groups of 64 words, each of 64 pages, and goes round past the last page.
+#[test]
+fn one_free_page_in_a_large_card(rt: HostRuntime) -> Result<(), Fail> {
+    let pages = full(rt.alloc(), 4199)?;
+    for puts in [1, 2, 20] {
+        works_alike(rt.alloc(), 4199, &pages, puts)?;
     }
     Ok(())
 }

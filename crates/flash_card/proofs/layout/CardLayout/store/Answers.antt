@@ -28,7 +28,7 @@ disown_others-requires-clause-first c =
     let p = c.free_page-page.result in
     first_written s.pages.memory.items c.args.block p c.args.content.now c.told-content (omega arith)
     c.write.new.self.memory.items c.write.ensures.items
-    s.tables.shown.items s.tables.stale.items s.tables.free.pages.items s.entered (omega arith) (omega arith)
+    s.tables.shown.items s.tables.stale.items s.tables.free.pages s.entered (omega arith) (omega arith)
     (taken_free s c.args._count n p (omega arith) c.free_page-page.ensures.page)
 
 pub disown_others-requires-clause-single : goal.disown_others-requires-clause-single
@@ -39,7 +39,7 @@ disown_others-requires-clause-single c =
     let p = c.free_page-page.result in
     single_written s.pages.memory.items c.args.block p c.args.content.now c.told-content (omega arith)
     c.write.new.self.memory.items c.write.ensures.items
-    s.tables.shown.items s.tables.stale.items s.tables.free.pages.items s.entered (omega arith) (omega arith)
+    s.tables.shown.items s.tables.stale.items s.tables.free.pages s.entered (omega arith) (omega arith)
     (taken_free s c.args._count n p (omega arith) c.free_page-page.ensures.page)
 
 pub invariant_of-self-clause-entered : goal.invariant_of-self-clause-entered
@@ -49,15 +49,13 @@ invariant_of-self-clause-entered c =
     let n : length s.tables.shown.items ≡ c.args._count = eqb-true _ _ c.requires.made in
     let p = c.free_page-page.result in
     let given = c.disown_others.new.tables in
-    let old = s.tables.free.pages.ok.0 in
-    let new = given.free.pages.ok.0 in
     let same = c.disown_others.ensures.free_len in
     put_tables s.pages.memory.items c.args.block p c.args.content.now c.told-content (omega arith)
     c.write.new.self.memory.items c.write.ensures.items
-    s.tables.shown.items s.tables.stale.items s.tables.free.pages.items s.entered (omega arith) (omega arith)
+    s.tables.shown.items s.tables.stale.items s.tables.free.pages s.entered (omega arith) (omega arith)
     (taken_free s c.args._count n p (omega arith) c.free_page-page.ensures.page)
-    c.disown_others.new.self.memory.items c.take.new.self.shown.items c.take.new.self.stale.items given.free.pages.items
-    c.take.new.self.free.pages.items c.disown_others.ensures.items
+    c.disown_others.new.self.memory.items c.take.new.self.shown.items c.take.new.self.stale.items given.free.pages
+    c.take.new.self.free.pages c.disown_others.ensures.items
     (c.take.ensures.shown ∙ ap (λ v. set v c.args.block p) c.disown_others.ensures.shown)
     (c.take.ensures.stale ∙ ap (λ v. set v c.args.block false) c.disown_others.ensures.stale)
     c.take.ensures.free (omega arith) c.disown_others.ensures.free

@@ -5,4 +5,4 @@ use Rattle.flash_card.proofs.pages.Pages.disown_each.Given as goal
 abbrev pub invariant-loop-page : goal.invariant-loop-page
 invariant-loop-page l =
     (vec_len l.self.memory ≡ vec_len l.initial.self.memory)
-    × GivenUp (vec_items l.initial.self.memory) (vec_items l.self.memory) l.block l.taken l.page (vec_items l.initial.free.pages) (vec_items l.free.pages)
+    × GivenUp (vec_items l.initial.self.memory) (vec_items l.self.memory) l.block l.taken l.page l.initial.free.pages l.free.pages

@@ -7,7 +7,7 @@ pub returns-then-owner-len-clause-after : goal.returns-then-owner-len-clause-aft
 returns-then-owner-len-clause-after c =
     let t = c.args.self.now in
     rw c.insert.ensures
-    (entered_free c.args.card.now.memory.items t.shown.items t.stale.items t.free.pages.items c.args.page c.owner-owner.result
+    (entered_free c.args.card.now.memory.items t.shown.items t.stale.items t.free.pages c.args.page c.owner-owner.result
     c.requires.before c.requires.inside (sym c.owner-owner.ensures) (omega arith))
 
 pub returns-then-index-page-clause-after : goal.returns-then-index-page-clause-after
@@ -16,7 +16,7 @@ returns-then-index-page-clause-after c =
     let read : c.index.result.now ≡ get_or t.shown.items c.owner-owner.result 0 =
     get_or_read_under t.shown.items c.owner-owner.result (vec_len t.shown) c.index.result.now 0 c.index.ensures (omega arith) (omega arith) in
     rw c.insert-then-index-page.ensures
-    (entered_stale c.args.card.now.memory.items t.shown.items t.stale.items t.free.pages.items c.args.page c.owner-owner.result
+    (entered_stale c.args.card.now.memory.items t.shown.items t.stale.items t.free.pages c.args.page c.owner-owner.result
     c.requires.before c.requires.inside (sym c.owner-owner.ensures) (omega arith) (omega arith))
 
 pub returns-else-index-page-clause-after : goal.returns-else-index-page-clause-after
@@ -24,5 +24,5 @@ returns-else-index-page-clause-after c =
     let t = c.args.self.now in
     let read : c.index.result.now ≡ get_or t.shown.items c.owner-owner.result 0 =
     get_or_read_under t.shown.items c.owner-owner.result (vec_len t.shown) c.index.result.now 0 c.index.ensures (omega arith) (omega arith) in
-    entered_first c.args.card.now.memory.items t.shown.items t.stale.items t.free.pages.items c.args.page c.owner-owner.result
+    entered_first c.args.card.now.memory.items t.shown.items t.stale.items t.free.pages c.args.page c.owner-owner.result
     c.requires.before c.requires.inside (sym c.owner-owner.ensures) (omega arith) (omega arith) c.requires.later

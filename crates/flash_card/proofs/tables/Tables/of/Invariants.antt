@@ -5,5 +5,5 @@ use Rattle.flash_card.proofs.tables.Tables.of.Given as goal
 abbrev pub invariant-loop-page : goal.invariant-loop-page
 invariant-loop-page l =
     (vec_len l.tables.shown ≡ l.count)
-    × Entered (vec_items l.card.memory) l.page (vec_items l.tables.shown) (vec_items l.tables.stale) (vec_items l.tables.free.pages)
-    × Unmarked l.page (vec_items l.tables.free.pages)
+    × Entered (vec_items l.card.memory) l.page (vec_items l.tables.shown) (vec_items l.tables.stale) l.tables.free.pages
+    × Unmarked l.page l.tables.free.pages

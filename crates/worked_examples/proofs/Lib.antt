@@ -1,0 +1,6 @@
+pub mod Premises
+pub mod Runs
+pub mod Commands
+pub mod Shifts
+pub mod AfterCommands
+pub mod StoreCalls
