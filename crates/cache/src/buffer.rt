@@ -1,5 +1,6 @@
 // What a write cache holds above the store below, and how it writes that back.
 ghost use Rattle.std.specs.Prelude.{◌≡◌, [], length, IfOk};
+ghost use Rattle.std.specs.Option.{option_copied};
 ghost use Rattle.store.specs.Keeps.{Keeps};
 ghost use Rattle.store.specs.Steps.{stepped};
 ghost use Rattle.cache.specs.Kinds.{CacheKind, holding, cache_steps, cache_meaning, CacheGood, BlocksWithin};
@@ -27,8 +28,8 @@ pub trait Buffer<S: Store>: Drop {
         ensures { result ≡ length (kind.entries (model self.now)) };
 
     // The newest content held for the block.
-    fn lookup(&self, block: u32) -> Option<[u8; BLOCK_BYTES]>
-        ensures { result ≡ kind.lookup (model self.now) block };
+    fn lookup(&self, block: u32) -> Option<&[u8; BLOCK_BYTES]>
+        ensures { option_copied result ≡ kind.lookup (model self.now) block };
 
     // The entry comes in; another may have to be written back for it.
     fn put(&mut self, below: &mut S, entry: Entry) -> Result<(), StoreError>

@@ -71,10 +71,10 @@ impl<S: Store, B: Buffer<S>> Store for Cache<S, B> {
 
     fn read_block(&mut self, block: u32) -> Result<[u8; BLOCK_BYTES], StoreError> {
         self.admit(block)?;
-        match self.held.lookup(block) {
-            None => self.below.read_block(block),
-            Some(content) => Ok(content),
+        if let Some(content) = self.held.lookup(block) {
+            return Ok(*content);
         }
+        self.below.read_block(block)
     }
 
     fn put_block(&mut self, block: u32, content: &[u8; BLOCK_BYTES]) -> Result<(), StoreError> {

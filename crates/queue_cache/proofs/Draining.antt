@@ -1,11 +1,7 @@
 -- The search for a block's newest content, and the draining of a queue.
-use Rattle.std.proofs.Common.{◌≡◌, ℕ, Bool, true, false, cond, eqb, List, [], ◌∷◌, reverse, find, option_map, Some, None, Ok, Err, Option, sym, refl, ap, ◌∙◌, subst}
-use Rattle.std.specs.Iterator.Adapters.{rev_source, rev_steps}
-use Rattle.std.specs.VecDeque.Iter.{deque_iter_rest, deque_iter_steps_back}
-use Rattle.std.specs.Option.{option_or}
-use Rattle.std.proofs.Math.ListN.{length-reverse}
-use Rattle.std.proofs.lemmas.Iterator.{YieldsList}
-use Rattle.std.proofs.lemmas.Iterator.Consumers.{YieldsList-from_shown}
+use Rattle.std.proofs.Common.{◌≡◌, ℕ, Bool, true, false, cond, eqb, List, [], ◌∷◌, ◌++◌, reverse, find, option_map, is_some, Some, None, Ok, Err, Option, sym, refl, ap, ◌∙◌}
+use Rattle.std.specs.Borrow.{Bor}
+use Rattle.std.specs.Option.{option_or, option_copied}
 use Rattle.std.proofs.lemmas.List.{reverse-append}
 use Rattle.std.proofs.lemmas.List.Folds.{find-append}
 use Rattle.std.proofs.lemmas.Bool.{cond-true, cond-false, true≢false}
@@ -13,14 +9,9 @@ use Rattle.store.specs.Steps.{Content, Steps, Stepped, stepped, next}
 use Rattle.cache.specs.declared.Entry.{Entry}
 use Rattle.queue_cache.specs.Queue.{QueueModel, queued, latest, evict_oldest, drain, drained}
 
--- the iterator of a queue, from its back
-pub yields_reversed : {A : Type 0} {s : _} (xs : List A) → deque_iter_rest (rev_source s) ≡ xs → YieldsList (rev_steps (deque_iter_steps_back {X = A})) (λ y. y.now) s (reverse xs)
-yields_reversed {A} {s} xs e =
-    subst (λ k. YieldsList (rev_steps (deque_iter_steps_back {X = A})) (λ y. y.now) s (reverse k)) e
-    (YieldsList-from_shown (rev_steps (deque_iter_steps_back {X = A})) (λ y. y.now) (λ u. reverse (deque_iter_rest (rev_source u)))
-    (λ u t p. length-reverse _ ∙ p.0)
-    (λ u x t p. ap reverse p ∙ reverse-append (deque_iter_rest (rev_source t)) (x.now ∷ []))
-    s)
+pub some_copied : {A : Type 0} (found : Option (Bor A)) → is_some found ≡ is_some (option_copied found)
+some_copied None = refl
+some_copied (Some x) = refl
 
 abbrev pub of_block : ℕ → Entry → Bool
 of_block b e = eqb b e.block
@@ -46,6 +37,18 @@ latest_find es b = latest_from es b None ∙ same (content_of (find (of_block b)
     same : (a : Option Content) → option_or a None ≡ a
     same None = refl
     same (Some x) = refl
+
+latest_on : (es fs : List Entry) (b : ℕ) (found : Option Content) → latest found (es ++ fs) b ≡ latest (latest found es b) fs b
+latest_on [] fs b found = refl
+latest_on (e ∷ es) fs b found = latest_on es fs b (cond (eqb b e.block) (Some e.content) found)
+
+-- of a queue in two parts the second has the newer entries
+pub latest_parted : (es older newer : List Entry) (b : ℕ) → older ++ newer ≡ es → latest None es b ≡ option_or (latest None newer b) (latest None older b)
+latest_parted es older newer b parts =
+    ap (λ (xs : List Entry). latest None xs b) (sym parts)
+    ∙ latest_on older newer b None
+    ∙ latest_from newer b (latest None older b)
+    ∙ ap (λ (a : Option Content). option_or a (latest None older b)) (sym (latest_find newer b))
 
 module _ {B : Type 0} (steps : Steps B) (wanted : List Entry → Bool) where
   pub drain_next :

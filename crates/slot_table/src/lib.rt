@@ -3,6 +3,7 @@
 
 ghost use Rattle.std.specs.Prelude.{◌≡◌, ◌<◌, length, replicate, IfOk, None, vec_len, slice_index_or};
 ghost use Rattle.std.specs.Borrow.{sem, follows};
+ghost use Rattle.std.specs.Option.{option_copied};
 ghost use Rattle.std.specs.Vec.{with_item};
 ghost use Rattle.std.specs.contracts.option.Option.{the_row as option-row};
 ghost use Rattle.cache.specs.contracts.Entry.{the_row as entry_row};
@@ -50,11 +51,11 @@ impl SlotTable {
         self.slots.iter().position(Option::is_none)
     }
 
-    // The block's slot, empty if it has none.
-    pub fn lookup(&self, block: u32) -> Option<Entry>
-        ensures { result ≡ slice_index_or self.now.slots.items (slot_of self.now.slots.items block) None }
+    // The entry in the block's slot.
+    pub fn lookup(&self, block: u32) -> Option<&Entry>
+        ensures { option_copied result ≡ slice_index_or self.now.slots.items (slot_of self.now.slots.items block) None }
     {
-        self.slots[self.slot_of(block)?]
+        self.slots[self.slot_of(block)?].as_ref()
     }
 
     // Where a content for the block goes if no slot has to be written back: its own slot, else the first empty one.
@@ -77,5 +78,8 @@ impl SlotTable {
 fn has_block(slot: &Option<Entry>, block: u32) -> bool
     ensures { result ≡ has_block block slot.now }
 {
-    slot.is_some_and(|entry| block == entry.block)
+    match slot {
+        Some(entry) => block == entry.block,
+        None => false,
+    }
 }

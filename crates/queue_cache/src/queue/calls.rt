@@ -1,9 +1,10 @@
 // How entries come in and are written back.
 ghost use Rattle.std.specs.Prelude.{◌≡◌, None, refl};
+ghost use Rattle.std.specs.Option.{option_copied};
 ghost use Rattle.store.specs.Steps.{stepped};
 ghost use Rattle.cache.specs.Kinds.{holding};
 ghost use Rattle.queue_cache.specs.Modeled.{queue_held};
-ghost use Rattle.queue_cache.specs.Queue.{latest, evict_oldest, queue_kind};
+ghost use Rattle.queue_cache.specs.Queue.{latest, holds, evict_oldest, queue_kind};
 ghost use Rattle.queue_cache.specs.QueueKeeps.{queue_keeps, queue_within};
 
 use super::QueueBuffer;
@@ -14,17 +15,31 @@ use store::{BLOCK_BYTES, Store, StoreError};
 
 pub const PLACES: usize = 16;
 
+// The block's newest content, of entries in order of arrival.
+fn latest_in(entries: &[Entry], block: u32) -> Option<&[u8; BLOCK_BYTES]>
+    ensures { option_copied result ≡ latest None entries.now block }
+{
+    let newest = entries.iter().rev().find(|entry| block == entry.block)?;
+    Some(&newest.content)
+}
+
 impl QueueBuffer {
     // The newest content held for the block.
-    fn latest(&self, block: u32) -> Option<[u8; BLOCK_BYTES]>
-        ensures { result ≡ latest None (queue_held self.now) block }
+    fn latest(&self, block: u32) -> Option<&[u8; BLOCK_BYTES]>
+        ensures { option_copied result ≡ latest None (queue_held self.now) block }
     {
-        let newest = self
-            .entries
-            .iter()
-            .rev()
-            .find(|entry| block == entry.block)?;
-        Some(newest.content)
+        let (older, newer) = self.entries.as_slices();
+        match latest_in(newer, block) {
+            Some(content) => Some(content),
+            None => latest_in(older, block),
+        }
+    }
+
+    // Whether a content of the block is held.
+    fn holds(&self, block: u32) -> bool
+        ensures { result ≡ holds block (queue_held self.now) }
+    {
+        self.latest(block).is_some()
     }
 
     // The oldest entry, if there is one, is written back.
@@ -60,7 +75,7 @@ impl<S: Store> Buffer<S> for QueueBuffer {
         self.entries.len()
     }
 
-    fn lookup(&self, block: u32) -> Option<[u8; BLOCK_BYTES]> {
+    fn lookup(&self, block: u32) -> Option<&[u8; BLOCK_BYTES]> {
         self.latest(block)
     }
 
@@ -76,7 +91,7 @@ impl<S: Store> Buffer<S> for QueueBuffer {
     // The oldest are written back until none of the block remains.
     #[tactic(auto, using(crate::proofs::Draining::drain_next, crate::proofs::Draining::drain_done))]
     fn evict(&mut self, below: &mut S, block: u32) -> Result<(), StoreError> {
-        while self.latest(block).is_some() {
+        while self.holds(block) {
             self.evict_oldest(below)?;
         }
         Ok(())

@@ -47,8 +47,8 @@ impl<S: Store> Buffer<S> for TableBuffer {
         self.table.count_full()
     }
 
-    fn lookup(&self, block: u32) -> Option<[u8; BLOCK_BYTES]> {
-        Some(self.table.lookup(block)?.content)
+    fn lookup(&self, block: u32) -> Option<&[u8; BLOCK_BYTES]> {
+        Some(&self.table.lookup(block)?.content)
     }
 
     // The entry goes into its own slot, else into an empty one, else into the one at the hand, which is written back first.

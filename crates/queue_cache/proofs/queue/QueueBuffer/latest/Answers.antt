@@ -1,22 +1,24 @@
-use Rattle.std.proofs.Common.{◌≡◌, option_map, find, reverse, sym, ap, ◌∙◌, rules, tests}
-use Rattle.std.specs.Borrow.{Bor}
-use Rattle.std.proofs.lemmas.Iterator.Search.{find_from_yields_List}
-use Rattle.cache.specs.declared.Entry.{Entry}
-use Rattle.queue_cache.proofs.Draining.{yields_reversed, of_block, content_of, latest_find}
+use Rattle.std.proofs.Common.{None, Option, sym, ap, ◌∙◌}
+use Rattle.std.specs.Option.{option_or}
+use Rattle.store.specs.Steps.{Content}
+use Rattle.queue_cache.specs.Modeled.{queue_held}
+use Rattle.queue_cache.specs.Queue.{latest}
+use Rattle.queue_cache.proofs.Draining.{latest_parted}
 use Rattle.queue_cache.proofs.queue.QueueBuffer.latest.Goals as goal
 
-pub returns-in_err-newest : goal.returns-in_err-newest
-returns-in_err-newest c =
-    let es = c.args.self.now.entries.items in
+pub returns-in-Some : goal.returns-in-Some
+returns-in-Some c =
     let b = c.args.block in
-    let found : option_map (λ (y : Bor Entry). y.now) c.find.result ≡ find (of_block b) (reverse es) =
-    find_from_yields_List (of_block b) _ _ c.find.result c.find.ensures.ran (yields_reversed es cc) (λ x t q k. search (rules, tests)) in
-    c.from_residual.ensures ∙ ap content_of (ap (option_map (λ (y : Bor Entry). y.now)) (sym c.in_err-newest.was) ∙ found) ∙ sym (latest_find es b)
+    let older = c.as_slices.result.0.now in
+    let newer = c.as_slices.result.1.now in
+    ap (λ (found : Option Content). option_or found (latest None older b)) c.in-Some.ensures
+    ∙ sym (latest_parted (queue_held c.args.self.now) older newer b c.as_slices.ensures.items)
 
-pub returns : goal.returns
-returns c =
-    let es = c.args.self.now.entries.items in
+pub returns-in-None : goal.returns-in-None
+returns-in-None c =
     let b = c.args.block in
-    let found : option_map (λ (y : Bor Entry). y.now) c.find.result ≡ find (of_block b) (reverse es) =
-    find_from_yields_List (of_block b) _ _ c.find.result c.find.ensures.ran (yields_reversed es cc) (λ x t q k. search (rules, tests)) in
-    ap content_of (ap (option_map (λ (y : Bor Entry). y.now)) (sym c.in_ok-newest.was) ∙ found) ∙ sym (latest_find es b)
+    let older = c.as_slices.result.0.now in
+    let newer = c.as_slices.result.1.now in
+    c.latest_in-in-None.ensures
+    ∙ ap (λ (found : Option Content). option_or found (latest None older b)) c.in-None.ensures
+    ∙ sym (latest_parted (queue_held c.args.self.now) older newer b c.as_slices.ensures.items)
