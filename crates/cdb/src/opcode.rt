@@ -6,23 +6,23 @@ use sense::CommandError;
 
 #[derive(Clone, Copy, PartialEq, Eq, Debug)]
 pub enum SixByte {
-    TestUnitReady = 0x00,
-    Inquiry = 0x12,
-    ModeSelect = 0x15,
-    Reserve = 0x16,
-    Release = 0x17,
-    ModeSense = 0x1a,
-    StartStopUnit = 0x1b,
-    PreventAllow = 0x1e,
+    TestUnitReady,
+    Inquiry,
+    ModeSelect,
+    Reserve,
+    Release,
+    ModeSense,
+    StartStopUnit,
+    PreventAllow,
 }
 
 #[derive(Clone, Copy, PartialEq, Eq, Debug)]
 pub enum TenByte {
-    ReadCapacity = 0x25,
-    Read = 0x28,
-    Write = 0x2a,
-    Verify = 0x2f,
-    SynchronizeCache = 0x35,
+    ReadCapacity,
+    Read,
+    Write,
+    Verify,
+    SynchronizeCache,
 }
 
 #[derive(Clone, Copy, PartialEq, Eq, Debug)]

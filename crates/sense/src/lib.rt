@@ -7,7 +7,6 @@ ghost use Rattle.sense.specs.Report.{attention_codes, error_report, report};
 
 use thiserror::Error;
 
-mod display;
 #[cfg(test)]
 mod tests;
 
