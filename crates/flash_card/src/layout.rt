@@ -61,6 +61,8 @@ impl Layout for Card {
 
     ghost fresh = { λ l. l.hand ≡ 0 };
 
+    ghost refusable = { Unit {0} };
+
     ghost counts = { Prim.search rules };
 
     ghost grants = { Prim.search rules };

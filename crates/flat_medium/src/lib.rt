@@ -40,6 +40,8 @@ impl Layout for Flat {
 
     ghost fresh = { λ _. Unit {0} };
 
+    ghost refusable = { ⊥ };
+
     ghost counts = { Prim.search rules };
 
     ghost grants = { Prim.search rules };

@@ -1,5 +1,5 @@
 // A medium of blocks, of any layout.
-ghost use Rattle.std.specs.Prelude.{◌≡◌, ◌<◌, ◌≤◌, true, length, vec_len, MatchResult};
+ghost use Rattle.std.specs.Prelude.{◌≡◌, ◌<◌, ◌≤◌, true, length, vec_len, IfErr, MatchResult};
 ghost use Rattle.store.specs.Steps.{stepped};
 ghost use Rattle.medium.specs.Check.{check_number, checked};
 ghost use Rattle.medium.specs.Medium.{medium_steps, medium_meaning};
@@ -39,7 +39,8 @@ impl<L: Layout> BlockMedium<L> {
         grant: u32,
     ) -> Result<BlockMedium<L>, AllocFailed<Vec<u8>>>
         requires { check_number (checked count (L.needed count) (vec_len memory)) ≡ 0 }
-        ensures { MatchResult result (λ medium. (L.bytes medium.layout ≡ memory) × (medium.count ≡ count) × (medium.grant ≡ grant) × L.fresh medium.layout) (λ back. back.value ≡ memory) }
+        ensures medium { MatchResult result (λ medium. (L.bytes medium.layout ≡ memory) × (medium.count ≡ count) × (medium.grant ≡ grant) × L.fresh medium.layout) (λ back. back.value ≡ memory) }
+        ensures refused { IfErr result (λ _. L.refusable) }
     {
         Ok(BlockMedium {
             layout: L::over(memory, count)?,

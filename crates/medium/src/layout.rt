@@ -1,5 +1,5 @@
 // How the blocks of a medium lie in its memory.
-ghost use Rattle.std.specs.Prelude.{◌≡◌, ℕ, ◌-◌, ◌<◌, ◌≤◌, Bool, true, length, vec_len, MatchResult};
+ghost use Rattle.std.specs.Prelude.{◌≡◌, ℕ, ◌-◌, ◌<◌, ◌≤◌, Bool, true, length, vec_len, IfErr, MatchResult};
 ghost use Rattle.std.specs.declared.alloc.Global.{Global};
 ghost use Rattle.std.specs.declared.vec.Vec.{Vec};
 ghost use Rattle.store.specs.Steps.{Content};
@@ -38,6 +38,9 @@ pub trait Layout {
     // how the layout of a new medium is, beside its memory
     ghost fresh: { Self → Type 0 };
 
+    // may a layout be refused? Not where nothing is kept beside the memory.
+    ghost refusable: { Type 0 };
+
     // How many bytes so many blocks need.
     fn needed(count: u32) -> usize
         ensures { result ≡ needed count };
@@ -46,7 +49,8 @@ pub trait Layout {
     // no memory for what the layout keeps beside it.
     fn over(memory: Vec<u8>, count: u32) -> Result<Self, AllocFailed<Vec<u8>>>
         requires { needed count ≤ vec_len memory }
-        ensures { MatchResult result (λ layout. (bytes layout ≡ memory) × (made layout count ≡ true) × fresh layout) (λ back. back.value ≡ memory) };
+        ensures layout { MatchResult result (λ layout. (bytes layout ≡ memory) × (made layout count ≡ true) × fresh layout) (λ back. back.value ≡ memory) }
+        ensures refused { IfErr result (λ _. refusable) };
 
     // The memory back.
     fn into_memory(self) -> Vec<u8>
