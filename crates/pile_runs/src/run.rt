@@ -1,7 +1,8 @@
 // A list of calls played over a medium under caches.
-ghost use Rattle.std.specs.Prelude.{◌≡◌, IfOk, map};
+ghost use Rattle.std.specs.Prelude.{◌≡◌, ◌≤◌, length, IfOk, IsOkUnless, map};
 ghost use Rattle.session.specs.Sessions.{call_of};
 ghost use Rattle.piles.specs.Orders.{bottom, under_caches};
+ghost use Rattle.piles.specs.declared.order.PileError.TheVariants.{NoMemory};
 ghost use Rattle.pile_runs.specs.Runs.{RunOf};
 
 use piles::{Bottom, Parts, Pile, PileError, Task, with_pile};
@@ -46,7 +47,8 @@ pub fn play_over(
     caches: &[CacheKind],
     calls: &[Call<'_>],
 ) -> Result<Run, PileError>
-    ensures { IfOk result (λ run. let p = under_caches caches.now (bottom medium) in RunOf p.steps p.meaning p.state (map call_of calls.now) run) }
+    ensures memory { length caches.now ≤ 3 → IsOkUnless result NoMemory }
+    ensures run { IfOk result (λ run. let p = under_caches caches.now (bottom medium) in RunOf p.steps p.meaning p.state (map call_of calls.now) run) }
 {
     Ok(with_pile(heap, medium, caches, Play { heap, calls })??)
 }

@@ -1,7 +1,8 @@
 // A run as the command line asks for it.
-ghost use Rattle.std.specs.Prelude.{◌≡◌, IfOk, map};
+ghost use Rattle.std.specs.Prelude.{◌≡◌, IfOk, IfErr, map};
 ghost use Rattle.session.specs.Sessions.{call_of};
-ghost use Rattle.pile_runs.specs.Setups.{kind_of, RunWith};
+ghost use Rattle.pile_runs.specs.Setups.{kind_of, IsWantOfMemory, RunWith};
+ghost use Rattle.pile_runs.specs.declared.setup.PlayError.TheVariants as errors;
 
 use crate::run::{Run, play_over};
 use piles::{MediumError, MediumKind, PileError, new_medium};
@@ -20,12 +21,16 @@ pub enum PlayError {
 }
 
 impl From<MediumError> for PlayError {
+    ghost from_gives = { λ error play_error. play_error ≡ errors.Medium error };
+
     fn from(error: MediumError) -> PlayError {
         PlayError::Medium(error)
     }
 }
 
 impl From<PileError> for PlayError {
+    ghost from_gives = { λ error play_error. play_error ≡ errors.Pile error };
+
     fn from(error: PileError) -> PlayError {
         PlayError::Pile(error)
     }
@@ -50,7 +55,8 @@ pub fn play_with(
     grant: u32,
     calls: &[Call<'_>],
 ) -> Result<Run, PlayError>
-    ensures { IfOk result (RunWith options.now grant (map call_of calls.now)) }
+    ensures run { IfOk result (RunWith options.now grant (map call_of calls.now)) }
+    ensures memory { IfErr result IsWantOfMemory }
 {
     let medium = new_medium(heap, medium_kind(options), options.blocks, grant)?;
     Ok(play_over(heap, medium, &options.caches, calls)?)

@@ -36,6 +36,11 @@ IsNew kinds.Flat blocks grant (Flat m) = flat_model m.layout m.count m.grant ≡
 IsNew (kinds.Card pages) blocks grant (Card c) = card_model c.layout c.count c.grant ≡ record { bytes = replicate (pages * 516) 0xff; count = blocks; grant = grant; hand = 0 }
 IsNew _ blocks grant _ = ⊥
 
+-- so many blocks have room on the medium: a card has a page more
+abbrev pub HasRoom : MediumKind → ℕ → Type 0
+HasRoom kinds.Flat blocks = Unit {0}
+HasRoom (kinds.Card pages) blocks = blocks < pages
+
 -- the medium at the next power-on, with one store granted
 abbrev pub Reopened : Bottom → Bottom → Type 0
 Reopened m m' =

@@ -1,6 +1,7 @@
 // New media.
-ghost use Rattle.std.specs.Prelude.{◌≡◌, IfOk};
-ghost use Rattle.piles.specs.Bottoms.{IsNew};
+ghost use Rattle.std.specs.Prelude.{◌≡◌, ◌≤◌, IfOk, IsOkUnless};
+ghost use Rattle.piles.specs.Bottoms.{IsNew, HasRoom};
+ghost use Rattle.piles.specs.declared.made.MediumError.TheVariants.{NoMemory};
 
 use crate::bottom::Bottom;
 use flash_card::{FlashCard, PAGE_BYTES};
@@ -33,6 +34,8 @@ impl From<Unfit> for MediumError {
 }
 
 impl From<AllocError> for MediumError {
+    ghost from_gives = { λ _ error. error ≡ NoMemory };
+
     fn from(_: AllocError) -> MediumError {
         MediumError::NoMemory
     }
@@ -45,7 +48,8 @@ pub fn new_medium(
     blocks: u32,
     grant: u32,
 ) -> Result<Bottom, MediumError>
-    ensures { IfOk result (IsNew kind blocks grant) }
+    ensures new { IfOk result (IsNew kind blocks grant) }
+    ensures memory { 1 ≤ blocks → blocks ≤ 16777216 → HasRoom kind blocks → IsOkUnless result NoMemory }
 {
     match kind {
         MediumKind::Flat => {

@@ -1,11 +1,12 @@
 // Which caches stand over the medium, and what is done with such a pile.
-ghost use Rattle.std.specs.Prelude.{◌≡◌, IfOk};
+ghost use Rattle.std.specs.Prelude.{◌≡◌, ◌≤◌, length, IfOk, IsOkUnless};
 ghost use Rattle.store.specs.Steps.{Steps};
 ghost use Rattle.store.specs.Meaning.{Meaning};
 ghost use Rattle.cache.specs.Kinds.{holding};
 ghost use Rattle.table_cache.specs.Table.{table_kind};
 ghost use Rattle.queue_cache.specs.Queue.{queue_kind};
 ghost use Rattle.piles.specs.Orders.{start, bottom, under_caches};
+ghost use Rattle.piles.specs.declared.order.PileError.TheVariants.{NoMemory};
 
 use crate::bottom::Bottom;
 use crate::pile::Pile;
@@ -26,6 +27,8 @@ pub enum PileError {
 }
 
 impl From<AllocError> for PileError {
+    ghost from_gives = { λ _ error. error ≡ NoMemory };
+
     fn from(_: AllocError) -> PileError {
         PileError::NoMemory
     }
@@ -49,7 +52,8 @@ pub fn with_pile<T: Task + Drop>(
     caches: &[CacheKind],
     task: T,
 ) -> Result<T::Output, PileError>
-    ensures { IfOk result (λ output. let p = under_caches caches.now (bottom medium) in T.gives task p.steps p.meaning p.state output) }
+    ensures output { IfOk result (λ output. let p = under_caches caches.now (bottom medium) in T.gives task p.steps p.meaning p.state output) }
+    ensures memory { length caches.now ≤ 3 → IsOkUnless result NoMemory }
 {
     match medium {
         Bottom::Flat(medium) => under_three(heap, medium, caches, task),
@@ -63,7 +67,8 @@ fn under_three<S: Pile, T: Task + Drop>(
     caches: &[CacheKind],
     task: T,
 ) -> Result<T::Output, PileError>
-    ensures { IfOk result (λ output. let p = under_caches caches.now (start S.Store.steps S.Store.meaning (S.Store.model pile)) in T.gives task p.steps p.meaning p.state output) }
+    ensures output { IfOk result (λ output. let p = under_caches caches.now (start S.Store.steps S.Store.meaning (S.Store.model pile)) in T.gives task p.steps p.meaning p.state output) }
+    ensures memory { length caches.now ≤ 3 → IsOkUnless result NoMemory }
 {
     let Some((cache, rest)) = caches.split_first() else {
         return Ok(task.run(pile));
@@ -80,7 +85,8 @@ fn under_two<S: Pile, T: Task + Drop>(
     caches: &[CacheKind],
     task: T,
 ) -> Result<T::Output, PileError>
-    ensures { IfOk result (λ output. let p = under_caches caches.now (start S.Store.steps S.Store.meaning (S.Store.model pile)) in T.gives task p.steps p.meaning p.state output) }
+    ensures output { IfOk result (λ output. let p = under_caches caches.now (start S.Store.steps S.Store.meaning (S.Store.model pile)) in T.gives task p.steps p.meaning p.state output) }
+    ensures memory { length caches.now ≤ 2 → IsOkUnless result NoMemory }
 {
     let Some((cache, rest)) = caches.split_first() else {
         return Ok(task.run(pile));
@@ -97,7 +103,8 @@ fn under_one<S: Pile, T: Task + Drop>(
     caches: &[CacheKind],
     task: T,
 ) -> Result<T::Output, PileError>
-    ensures { IfOk result (λ output. let p = under_caches caches.now (start S.Store.steps S.Store.meaning (S.Store.model pile)) in T.gives task p.steps p.meaning p.state output) }
+    ensures output { IfOk result (λ output. let p = under_caches caches.now (start S.Store.steps S.Store.meaning (S.Store.model pile)) in T.gives task p.steps p.meaning p.state output) }
+    ensures memory { length caches.now ≤ 1 → IsOkUnless result NoMemory }
 {
     let Some((cache, rest)) = caches.split_first() else {
         return Ok(task.run(pile));
@@ -113,7 +120,8 @@ fn under_none<S: Pile, T: Task + Drop>(
     caches: &[CacheKind],
     task: T,
 ) -> Result<T::Output, PileError>
-    ensures { IfOk result (λ output. let p = under_caches caches.now (start S.Store.steps S.Store.meaning (S.Store.model pile)) in T.gives task p.steps p.meaning p.state output) }
+    ensures output { IfOk result (λ output. let p = under_caches caches.now (start S.Store.steps S.Store.meaning (S.Store.model pile)) in T.gives task p.steps p.meaning p.state output) }
+    ensures memory { length caches.now ≤ 0 → IsOkUnless result NoMemory }
 {
     if caches.is_empty() {
         Ok(task.run(pile))
