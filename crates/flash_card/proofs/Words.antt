@@ -1,13 +1,13 @@
 -- A row of bits: what is read of its words, and what is written to them.
 use Rattle.std.proofs.Common.{◌≡◌, ◌≢◌, ℕ, ◌+◌, ◌-◌, ◌*◌, ◌/◌, ◌%◌, ◌^◌, ◌<◌, ◌≤◌, min, Bool, true, false, eqb, List, length, replicate, get_or, set, Some, None, bit_and, bit_or, w64, sym, ap, ◌∙◌, arith, ⊎_elim}
 use Rattle.std.specs.Int.{bit_at, bit_not, trailing_zeros}
-use Rattle.std.proofs.lemmas.Bool.{eq-eqb, ne_eqb, cases_eq, cases_lt}
+use Rattle.std.proofs.lemmas.Bool.{true≢false, eq-eqb, ne_eqb, cases_eq, cases_lt}
 use Rattle.std.proofs.lemmas.List.{ext_get_or, length-set, length-replicate, get_or-set_same, get_or-set_other, get_or-replicate, get_or_past, get_or_read}
 use Rattle.std.proofs.lemmas.List.FromFn.{length-map-range_with_len, get_or-map-range_with_len}
 use Rattle.std.proofs.lemmas.Nat.{shr-shr, shr_le}
 use Rattle.std.proofs.lemmas.Nat.Bits.{bit_at-zero, bit_at_above, bit_at-trailing_zeros, bit_at_set_same, bit_at_set_other, bit_at_clear_same, bit_at_clear_other}
-use Rattle.flash_card.specs.Bits.{is_set, row}
-use Rattle.flash_card.specs.Tables.{FirstMarked}
+use Rattle.flash_card.specs.Bits.{is_set, row, Holds}
+use Rattle.flash_card.specs.Tables.{FirstMarked, HasMark}
 
 pub length-row : (n : ℕ) (words : List ℕ) → length (row n words) ≡ n
 unfolding row
@@ -35,6 +35,10 @@ zero_at m j =
     (λ (l : m ≤ j). get_or_past (zeros m) j 0 (let e : length (zeros m) ≡ m = length-replicate {A = ℕ} m 0 in omega arith))
     (cases_lt j m)
 
+-- no bit of words that are zero is set
+none_set : (m i : ℕ) → is_set (zeros m) i ≡ false
+none_set m i = unmarked (bit_at (get_or (zeros m) (i / 64) 0) (i % 64)) (ap (λ w. bit_at w (i % 64)) (zero_at m (i / 64)) ∙ bit_at-zero (i % 64))
+
 pub row_none : (n m : ℕ) → row n (replicate m 0) ≡ replicate n false
 row_none n m =
     ext_get_or false (row n (zeros m)) (replicate n false)
@@ -42,7 +46,7 @@ row_none n m =
     (λ i l.
     let h : i < n = (let e = length-row n (zeros m) in omega arith) in
     get_or-row n (zeros m) i h
-    ∙ unmarked (bit_at (get_or (zeros m) (i / 64) 0) (i % 64)) (ap (λ w. bit_at w (i % 64)) (zero_at m (i / 64)) ∙ bit_at-zero (i % 64))
+    ∙ none_set m i
     ∙ sym (get_or-replicate n i false false h))
 
 -- one word is replaced, whose other bits stay
@@ -68,6 +72,13 @@ module _
       (λ (apart : i / 64 ≡ place / 64 → ⊥).
       ap (λ w. eqb (bit_at w (i % 64)) 1) (get_or-set_other words (place / 64) (i / 64) word 0 apart))
       (cases_eq (i / 64) (place / 64))
+
+  holds_set : Holds n words → Holds n (set words (place / 64) word)
+  holds_set held =
+      record {
+        room = let e = length-set words (place / 64) word in omega arith;
+        unset = λ i past. other_bit i (λ (e : i ≡ place). omega arith) ∙ held.unset i past;
+      }
 
   row_set : (mark : Bool) → eqb (bit_at word (place % 64)) 1 ≡ mark → row n (set words (place / 64) word) ≡ set (row n words) place mark
   row_set mark now =
@@ -104,6 +115,16 @@ module _
     index : place % 64 < 64
     index = omega arith
 
+    pub holds_marked : Holds n words → Holds n (set words (place / 64) (bit_or v (1 * 2 ^ (place % 64) % 2 ^ 64)))
+    holds_marked =
+        holds_set n words place (bit_or v (1 * 2 ^ (place % 64) % 2 ^ 64)) here room
+        (λ i l differs. bit_at_set_other w64 v (place % 64) index i differs ∙ ap (λ w. bit_at w i) read)
+
+    pub holds_cleared : Holds n words → Holds n (set words (place / 64) (bit_and v (bit_not w64 (1 * 2 ^ (place % 64) % 2 ^ 64))))
+    holds_cleared =
+        holds_set n words place (bit_and v (bit_not w64 (1 * 2 ^ (place % 64) % 2 ^ 64))) here room
+        (λ i l differs. bit_at_clear_other w64 v (place % 64) index i l differs ∙ ap (λ w. bit_at w i) read)
+
     pub row_marked : row n (set words (place / 64) (bit_or v (1 * 2 ^ (place % 64) % 2 ^ 64))) ≡ set marks place true
     row_marked =
         row_set n words place (bit_or v (1 * 2 ^ (place % 64) % 2 ^ 64)) here room
@@ -131,6 +152,21 @@ module _
         (ap (λ j. bit_at (get_or words j 0) (k % 64)) same ∙ ap (λ w. bit_at w (k % 64)) (sym read ∙ empty) ∙ bit_at-zero (k % 64)))
         (λ (l : n ≤ k). get_or_past (row n words) k false (let e = length-row n words in omega arith))
         (cases_lt k n)
+
+    -- some bit of a word that is not zero is set
+    pub some_in_word : Holds n words → v < 2 ^ 64 → (v ≢ 0) → HasMark marks (place / 64)
+    some_in_word held small some =
+        let lowest = bit_at-trailing_zeros w64 v (omega arith) small in
+        let k = place / 64 * 64 + trailing_zeros w64 v in
+        let same : k / 64 ≡ place / 64 = (let l = lowest.0 in omega arith) in
+        let bit : k % 64 ≡ trailing_zeros w64 v = (let l = lowest.0 in omega arith) in
+        let on : is_set words k ≡ true =
+        ap (λ j. eqb (bit_at (get_or words j 0) (k % 64)) 1) same
+        ∙ ap (λ w. eqb (bit_at w (k % 64)) 1) (sym read)
+        ∙ ap (λ i. eqb (bit_at v i) 1) bit
+        ∙ marked (bit_at v (trailing_zeros w64 v)) lowest.1 in
+        let inside : k < n = ⊎_elim (λ (l : k < n). l) (λ (l : n ≤ k). absurd (true≢false (sym on ∙ held.unset k l))) (cases_lt k n) in
+        record { place = k; inside = same; marked = ap (λ m. get_or m k false) (sym view) ∙ get_or-row n words k inside ∙ on }
 
 -- A search from place `start`, whose word was read as v and is shifted down so that this place's bit is the lowest.
 module _

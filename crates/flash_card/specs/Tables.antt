@@ -8,10 +8,17 @@ FirstMarked marks i n r =
     MatchOption r ((k : ℕ) → i ≤ k → k < n → slice_index_or marks k false ≡ false)
     (λ p. (i ≤ p) × (p < n) × (slice_index_or marks p false ≡ true) × ((k : ℕ) → i ≤ k → k < p → slice_index_or marks k false ≡ false))
 
--- The groups of 64 places that a search for a mark goes into: each with a mark is one.
+-- of the marks, some one of group g is set
+pub record HasMark (marks : List Bool) (g : ℕ) : Type 0 where
+  pub place : ℕ
+  pub inside : place / 64 ≡ g
+  pub marked : slice_index_or marks place false ≡ true
+
+-- The groups of 64 places that a search for a mark goes into: those with a mark, and no others.
 pub record Grouped (marks groups : List Bool) : Type 0 where
   pub enough : length marks < length groups * 64
   pub covered : (i : ℕ) → slice_index_or marks i false ≡ true → slice_index_or groups (i / 64) false ≡ true
+  pub needed : (g : ℕ) → slice_index_or groups g false ≡ true → ∥ HasMark marks g ∥₁
 
 -- The tables of a card, of whose pages the first m are entered.
 pub record Entered (bytes : List ℕ) (m : ℕ) (shown : List ℕ) (stale vacant : List Bool) : Type 0 where

@@ -1,7 +1,7 @@
 // A row of bits, in words of 64.
-ghost use Rattle.std.specs.Prelude.{◌≡◌, ℕ, ◌+◌, ◌*◌, ◌/◌, ◌<◌, ◌≤◌, Bool, true, false, List, length, min, replicate, IfOk, IsTrue, slice_index_or, slice_set};
-ghost use Rattle.flash_card.specs.Bits.{row};
-ghost use Rattle.flash_card.specs.Tables.{FirstMarked};
+ghost use Rattle.std.specs.Prelude.{◌≡◌, ℕ, ◌+◌, ◌*◌, ◌/◌, ◌<◌, ◌≤◌, Bool, true, false, List, length, min, replicate, IfOk, IsFalse, IsTrue, slice_index_or, slice_set};
+ghost use Rattle.flash_card.specs.Bits.{row, Holds};
+ghost use Rattle.flash_card.specs.Tables.{FirstMarked, HasMark};
 
 use std::alloc::{AllocError, Global};
 use std::marker::Model;
@@ -20,7 +20,7 @@ impl Model for Bits {
 
     ghost view = { λ b. row b.count b.words.items };
 
-    ghost invariant = { λ b. b.count ≤ length b.words.items * 64 };
+    ghost invariant = { λ b. Holds b.count b.words.items };
 }
 
 impl Bits {
@@ -49,7 +49,8 @@ impl Bits {
     // Is no bit of the word set in which this place stands?
     pub fn word_is_empty(&self, place: usize) -> bool
         requires { place < length self.now }
-        ensures { IsTrue result → (k : ℕ) → k / 64 ≡ place / 64 → slice_index_or self.now k false ≡ false }
+        ensures empty { IsTrue result → (k : ℕ) → k / 64 ≡ place / 64 → slice_index_or self.now k false ≡ false }
+        ensures some { IsFalse result → HasMark self.now (place / 64) }
     {
         self.words[place / WORD_BITS] == 0
     }

@@ -1,4 +1,4 @@
-// Which pages are free: a bit for each page, and a mark for each word of pages that may have a free one.
+// Which pages are free: a bit for each page, and a mark for each word of pages that has a free one.
 ghost use Rattle.std.specs.Prelude.{◌≡◌, ◌<◌, ◌≤◌, false, true, length, replicate, IfOk, slice_set};
 ghost use Rattle.flash_card.specs.Tables.{FirstMarked, Grouped};
 

@@ -1,4 +1,4 @@
-// A row of bits, and a bit for each word of them that may have one set, so that a search passes over words that have none.
+// A row of bits, and a bit for each word of them that has one set, so that a search passes over words that have none.
 ghost use Rattle.std.specs.Prelude.{◌≡◌, ◌<◌, ◌≤◌, false, true, length, replicate, IfOk, slice_set};
 ghost use Rattle.flash_card.specs.Tables.{FirstMarked, Grouped};
 
