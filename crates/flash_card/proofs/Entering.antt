@@ -5,7 +5,7 @@ use Rattle.std.proofs.lemmas.Bool.{true≢false, cond-true, cond-false, eq-eqb, 
 use Rattle.std.proofs.lemmas.List.{get_or-set_same, get_or-set_other, length-set, get_or-replicate, length-replicate}
 use Rattle.flash_card.specs.Card.{pages, owner, first_from, first_page, free}
 use Rattle.flash_card.specs.Search.{first_passes, first_least, first_is, first_none}
-use Rattle.flash_card.specs.Tables.{Entered, Unmarked}
+use Rattle.flash_card.specs.Tables.{Entered, Further, Unmarked}
 
 -- the first place below i that passes the test, or n
 module _ (test : ℕ → Bool) (n : ℕ) where
@@ -68,6 +68,35 @@ entered_none bytes count =
       single = λ b i l mark h e. absurd (omega arith);
       frees = λ i h. absurd (omega arith);
     }
+
+pub further_none : (bytes : List ℕ) (count : ℕ) → Further bytes 0 (replicate count (pages bytes)) (replicate count false)
+further_none bytes count b l mark =
+    let n = length-replicate count (pages bytes) in
+    absurd (true≢false (sym mark ∙ get_or-replicate count b false false (omega arith)))
+
+-- page m, whose owner is block k, is the next one to be entered
+module _ (bytes shown : List ℕ) (stale : List Bool) (m k : ℕ) (ok : Further bytes m shown stale) where
+  pub further_first : m ≤ get_or shown k 0 → Further bytes (m + 1) (set shown k m) stale
+  further_first unmet b l mark =
+      let count = length-set shown k m in
+      let w = ok b (omega arith) mark in
+      ⊎_elim
+      (λ (y : b ≡ k).
+      let e : get_or shown b 0 ≡ get_or shown k 0 = ap (λ v. get_or shown v 0) y in
+      let low = w.1 in
+      let behind = w.3 in
+      absurd (omega arith))
+      (λ (y : b ≡ k → ⊥). (w.0, omega (arith, w.1), w.2, subst (λ v. v < w.0) (sym (get_or-set_other shown k b m 0 y)) w.3))
+      (cases_eq b k)
+
+  pub further_stale : owner bytes m ≡ k → get_or shown k 0 < m → Further bytes (m + 1) shown (set stale k true)
+  further_stale own met b l mark =
+      ⊎_elim
+      (λ (y : b ≡ k). (m, omega arith, own ∙ sym y, subst (λ v. get_or shown v 0 < m) (sym y) met))
+      (λ (y : b ≡ k → ⊥).
+      let w = ok b l (sym (get_or-set_other stale k b true false y) ∙ mark) in
+      (w.0, omega (arith, w.1), w.2, w.3))
+      (cases_eq b k)
 
 module _
     (bytes shown : List ℕ) (stale vacant : List Bool) (m k : ℕ) (ok : Entered bytes m shown stale vacant) (next : m < pages bytes)

@@ -32,6 +32,11 @@ pub record Entered (bytes : List ℕ) (m : ℕ) (shown : List ℕ) (stale vacant
       (b i : ℕ) → b < length shown → slice_index_or stale b false ≡ false → i < m → owner bytes i ≡ b → i ≡ slice_index_or shown b 0
   pub frees : (i : ℕ) → i < m → slice_index_or vacant i false ≡ free bytes (length shown) i
 
+-- each marked block has, among the first m pages, one behind its first
+abbrev pub Further : List ℕ → ℕ → List ℕ → List Bool → Type 0
+Further bytes m shown stale =
+    (b : ℕ) → b < length shown → slice_index_or stale b false ≡ true → (i : ℕ) × (i < m) × (owner bytes i ≡ b) × (slice_index_or shown b 0 < i)
+
 -- no page from page m on is marked as free
 abbrev pub Unmarked : ℕ → List Bool → Type 0
 Unmarked m vacant = (i : ℕ) → m ≤ i → slice_index_or vacant i false ≡ false

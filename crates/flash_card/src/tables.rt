@@ -1,8 +1,8 @@
 // What the card keeps beside its bytes, so that no call searches the pages: which page each block shows, which blocks have
 // further pages, and which pages are free.
-ghost use Rattle.std.specs.Prelude.{◌≡◌, ◌+◌, ◌<◌, false, length, replicate, IfOk, slice_set, vec_len};
+ghost use Rattle.std.specs.Prelude.{◌≡◌, ◌+◌, ◌<◌, false, length, replicate, IfOk, slice_index_or, slice_set, vec_len};
 ghost use Rattle.flash_card.specs.Card.{pages};
-ghost use Rattle.flash_card.specs.Tables.{Entered, Unmarked};
+ghost use Rattle.flash_card.specs.Tables.{Entered, Further, Unmarked};
 
 use crate::free_pages::FreePages;
 use crate::pages::Pages;
@@ -13,14 +13,16 @@ pub struct Tables {
     // each block's first page, or the number of pages if it has none
     pub shown: Vec<usize>,
     // may the block have further pages?
-    pub stale: Vec<bool>,
+    stale: Vec<bool>,
     pub free: FreePages,
 }
 
 impl Tables {
     // The tables of a card with so many blocks, from one pass over its pages.
+    // A block is marked only if it has a page behind its first.
     pub fn of(heap: Global, card: &Pages, count: u32) -> Result<Tables, AllocError>
         ensures entered { IfOk result (λ t. Entered card.now.memory.items (pages card.now.memory.items) t.shown.items t.stale.items t.free.pages) }
+        ensures further { IfOk result (λ t. Further card.now.memory.items (pages card.now.memory.items) t.shown.items t.stale.items) }
         ensures count { IfOk result (λ t. vec_len t.shown ≡ count) }
     {
         let mut tables = Tables::empty(heap, card.count(), count)?;
@@ -44,8 +46,10 @@ impl Tables {
     fn enter(&mut self, card: &Pages, page: usize)
         requires inside { page < pages card.now.memory.items }
         requires before { Entered card.now.memory.items page self.old.shown.items self.old.stale.items self.old.free.pages }
+        requires further { Further card.now.memory.items page self.old.shown.items self.old.stale.items }
         requires later { Unmarked page self.old.free.pages }
         ensures after { Entered card.now.memory.items (page + 1) self.new.shown.items self.new.stale.items self.new.free.pages }
+        ensures further { Further card.now.memory.items (page + 1) self.new.shown.items self.new.stale.items }
         ensures later { Unmarked (page + 1) self.new.free.pages }
         ensures count { vec_len self.new.shown ≡ vec_len self.old.shown }
     {
@@ -58,6 +62,14 @@ impl Tables {
         } else {
             self.shown[owner] = page;
         }
+    }
+
+    // May the block have further pages?
+    pub fn is_marked(&self, block: u32) -> bool
+        requires { block < vec_len self.now.stale }
+        ensures { result ≡ slice_index_or self.now.stale.items block false }
+    {
+        self.stale[block as usize]
     }
 
     // The block shows the page, and has no other.
