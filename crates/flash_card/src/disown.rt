@@ -27,7 +27,7 @@ impl Pages {
         ensures free { (j : ℕ) → j < pages self.old.memory.items → (j ≢ taken) → slice_index_or tables.new.free.pages j false ≡ cond (owner self.old.memory.items j == block) true (slice_index_or tables.old.free.pages j false) }
     {
         let first = tables.shown[block as usize];
-        if tables.stale[block as usize] {
+        if tables.is_marked(block) {
             self.disown_each(&mut tables.free, block, taken);
         } else if first < self.count() {
             self.disown(first);

@@ -1,6 +1,6 @@
 // What the card keeps beside its bytes, so that no call searches the pages: which page each block shows, which blocks have
 // further pages, and which pages are free.
-ghost use Rattle.std.specs.Prelude.{◌≡◌, ◌+◌, ◌<◌, false, length, replicate, IfOk, slice_set, vec_len};
+ghost use Rattle.std.specs.Prelude.{◌≡◌, ◌+◌, ◌<◌, false, length, replicate, IfOk, slice_index_or, slice_set, vec_len};
 ghost use Rattle.flash_card.specs.Card.{pages};
 ghost use Rattle.flash_card.specs.Tables.{Entered, Further, Unmarked};
 
@@ -13,7 +13,7 @@ pub struct Tables {
     // each block's first page, or the number of pages if it has none
     pub shown: Vec<usize>,
     // may the block have further pages?
-    pub stale: Vec<bool>,
+    stale: Vec<bool>,
     pub free: FreePages,
 }
 
@@ -62,6 +62,14 @@ impl Tables {
         } else {
             self.shown[owner] = page;
         }
+    }
+
+    // May the block have further pages?
+    pub fn is_marked(&self, block: u32) -> bool
+        requires { block < vec_len self.now.stale }
+        ensures { result ≡ slice_index_or self.now.stale.items block false }
+    {
+        self.stale[block as usize]
     }
 
     // The block shows the page, and has no other.
