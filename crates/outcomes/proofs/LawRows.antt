@@ -48,7 +48,7 @@ module _ {M : Type 0} (steps : Steps M) (meaning : M → Meaning) (good : M → 
       (ap₂ (λ (row : List Content) (v : Bool). row ++ added c r.answer v b) same on)
 
 -- a run over a pile of empty caches
-module _ {grant : ℕ} (p : Start) (e : Empty grant p) (calls : List Call) (r : Run) (o : RunOf p.steps p.meaning p.state calls r) where
+module _ {grant : ℕ} (p : Start) (e : Empty grant p) (calls : List Call) (r : Run) (o : RunOf p.steps p.meaning p.held p.state calls r) where
   rows_of_run : (b : ℕ) → rows_after (λ _. []) (nat_lt 0 grant) calls (map answer_of_reply (vec_items r.replies)) b ≡ drop 1 (law_rows p.steps p.meaning p.state calls b)
   rows_of_run b =
       let w = made_over p.steps p.state in

@@ -24,7 +24,7 @@ kind_of media.Card pages = kinds.Card pages
 abbrev pub RunWith : Options → ℕ → List Call → Run → Type 0
 RunWith o grant calls run =
     (m : Bottom) × IsNew (kind_of o.medium o.pages) o.blocks grant m
-    × (let p = under_caches (vec_items o.caches) (bottom m) in RunOf p.steps p.meaning p.state calls run)
+    × (let p = under_caches (vec_items o.caches) (bottom m) in RunOf p.steps p.meaning p.held p.state calls run)
 
 -- there is no memory for the medium, or for a cache
 abbrev pub IsWantOfMemory : PlayError → Type 0

@@ -27,7 +27,7 @@ struct Play<'a> {
 impl Task for Play<'_> {
     type Output = Result<Run, AllocError>;
 
-    ghost gives = { λ task steps meaning state output. IfOk output (RunOf steps meaning state (map call_of task.calls.now)) };
+    ghost gives = { λ task steps meaning held state output. IfOk output (RunOf steps meaning held state (map call_of task.calls.now)) };
 
     fn run<S: Pile>(self, pile: S) -> Result<Run, AllocError> {
         let Session { module, replies } = play(self.heap, pile, self.calls)?;
@@ -48,7 +48,7 @@ pub fn play_over(
     calls: &[Call<'_>],
 ) -> Result<Run, PileError>
     ensures memory { length caches.now ≤ 3 → IsOkUnless result NoMemory }
-    ensures run { IfOk result (λ run. let p = under_caches caches.now (bottom medium) in RunOf p.steps p.meaning p.state (map call_of calls.now) run) }
+    ensures run { IfOk result (λ run. let p = under_caches caches.now (bottom medium) in RunOf p.steps p.meaning p.held p.state (map call_of calls.now) run) }
 {
     Ok(with_pile(heap, medium, caches, Play { heap, calls })??)
 }

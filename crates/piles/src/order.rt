@@ -1,11 +1,11 @@
 // Which caches stand over the medium, and what is done with such a pile.
-ghost use Rattle.std.specs.Prelude.{◌≡◌, ◌≤◌, length, IfOk, IsOkUnless};
+ghost use Rattle.std.specs.Prelude.{◌≡◌, ◌≤◌, ℕ, length, IfOk, IsOkUnless};
 ghost use Rattle.store.specs.Steps.{Steps};
 ghost use Rattle.store.specs.Meaning.{Meaning};
 ghost use Rattle.cache.specs.Kinds.{holding};
 ghost use Rattle.table_cache.specs.Table.{table_kind};
 ghost use Rattle.queue_cache.specs.Queue.{queue_kind};
-ghost use Rattle.piles.specs.Orders.{start, bottom, under_caches};
+ghost use Rattle.piles.specs.Orders.{start, bottom, under_caches, CountsHeld};
 ghost use Rattle.piles.specs.declared.order.PileError.TheVariants.{NoMemory};
 
 use crate::bottom::Bottom;
@@ -38,11 +38,12 @@ impl From<AllocError> for PileError {
 pub trait Task {
     type Output;
 
-    // what it gives, by the steps and the meaning of the pile, and the state that it starts in
-    ghost gives: { {M : Type 0} → Self → Steps M → (M → Meaning) → M → Self.Output → Type 0 };
+    // what it gives, by the steps of the pile, its meaning and how many contents its caches hold, and the state that it
+    // starts in
+    ghost gives: { {M : Type 0} → Self → Steps M → (M → Meaning) → (M → ℕ) → M → Self.Output → Type 0 };
 
     fn run<S: Pile>(self, pile: S) -> Self::Output
-        ensures { gives self S.Store.steps S.Store.meaning (S.Store.model pile) result };
+        ensures { (held : S.Store.Model → ℕ) → CountsHeld S.Store.model S.Pile.pending held → gives self S.Store.steps S.Store.meaning held (S.Store.model pile) result };
 }
 
 // The task on the medium under these caches, the first lowest; all are empty.
@@ -52,7 +53,7 @@ pub fn with_pile<T: Task + Drop>(
     caches: &[CacheKind],
     task: T,
 ) -> Result<T::Output, PileError>
-    ensures output { IfOk result (λ output. let p = under_caches caches.now (bottom medium) in T.gives task p.steps p.meaning p.state output) }
+    ensures output { IfOk result (λ output. let p = under_caches caches.now (bottom medium) in T.gives task p.steps p.meaning p.held p.state output) }
     ensures memory { length caches.now ≤ 3 → IsOkUnless result NoMemory }
 {
     match medium {
@@ -67,7 +68,7 @@ fn under_three<S: Pile, T: Task + Drop>(
     caches: &[CacheKind],
     task: T,
 ) -> Result<T::Output, PileError>
-    ensures output { IfOk result (λ output. let p = under_caches caches.now (start S.Store.steps S.Store.meaning (S.Store.model pile)) in T.gives task p.steps p.meaning p.state output) }
+    ensures output { (held : S.Store.Model → ℕ) → CountsHeld S.Store.model S.Pile.pending held → IfOk result (λ output. let p = under_caches caches.now (start S.Store.steps S.Store.meaning held (S.Store.model pile)) in T.gives task p.steps p.meaning p.held p.state output) }
     ensures memory { length caches.now ≤ 3 → IsOkUnless result NoMemory }
 {
     let Some((cache, rest)) = caches.split_first() else {
@@ -85,7 +86,7 @@ fn under_two<S: Pile, T: Task + Drop>(
     caches: &[CacheKind],
     task: T,
 ) -> Result<T::Output, PileError>
-    ensures output { IfOk result (λ output. let p = under_caches caches.now (start S.Store.steps S.Store.meaning (S.Store.model pile)) in T.gives task p.steps p.meaning p.state output) }
+    ensures output { (held : S.Store.Model → ℕ) → CountsHeld S.Store.model S.Pile.pending held → IfOk result (λ output. let p = under_caches caches.now (start S.Store.steps S.Store.meaning held (S.Store.model pile)) in T.gives task p.steps p.meaning p.held p.state output) }
     ensures memory { length caches.now ≤ 2 → IsOkUnless result NoMemory }
 {
     let Some((cache, rest)) = caches.split_first() else {
@@ -103,7 +104,7 @@ fn under_one<S: Pile, T: Task + Drop>(
     caches: &[CacheKind],
     task: T,
 ) -> Result<T::Output, PileError>
-    ensures output { IfOk result (λ output. let p = under_caches caches.now (start S.Store.steps S.Store.meaning (S.Store.model pile)) in T.gives task p.steps p.meaning p.state output) }
+    ensures output { (held : S.Store.Model → ℕ) → CountsHeld S.Store.model S.Pile.pending held → IfOk result (λ output. let p = under_caches caches.now (start S.Store.steps S.Store.meaning held (S.Store.model pile)) in T.gives task p.steps p.meaning p.held p.state output) }
     ensures memory { length caches.now ≤ 1 → IsOkUnless result NoMemory }
 {
     let Some((cache, rest)) = caches.split_first() else {
@@ -120,7 +121,7 @@ fn under_none<S: Pile, T: Task + Drop>(
     caches: &[CacheKind],
     task: T,
 ) -> Result<T::Output, PileError>
-    ensures output { IfOk result (λ output. let p = under_caches caches.now (start S.Store.steps S.Store.meaning (S.Store.model pile)) in T.gives task p.steps p.meaning p.state output) }
+    ensures output { (held : S.Store.Model → ℕ) → CountsHeld S.Store.model S.Pile.pending held → IfOk result (λ output. let p = under_caches caches.now (start S.Store.steps S.Store.meaning held (S.Store.model pile)) in T.gives task p.steps p.meaning p.held p.state output) }
     ensures memory { length caches.now ≤ 0 → IsOkUnless result NoMemory }
 {
     if caches.is_empty() {

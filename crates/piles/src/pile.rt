@@ -1,6 +1,6 @@
 // A pile: a medium, or a cache over a pile.
 ghost use Rattle.std.specs.Prelude.{◌≡◌, ℕ, length};
-ghost use Rattle.piles.specs.Bottoms.{granted, Stands, sum_up};
+ghost use Rattle.piles.specs.Bottoms.{counted, granted, Stands, sum_up};
 
 use crate::bottom::Bottom;
 use cache::{Buffer, Cache};
@@ -22,6 +22,7 @@ pub trait Pile: Store + Drop {
     // The medium, without what is held above it.
     fn into_parts(self) -> Parts
         ensures pending { result.pending ≡ pending self }
+        ensures count { counted result.bottom ≡ (Self.meaning (Self.model self)).count }
         ensures grant { granted result.bottom ≡ (Self.meaning (Self.model self)).grant }
         ensures stands { Stands (Self.meaning (Self.model self)) result.bottom };
 }

@@ -66,7 +66,7 @@ struct Count;
 impl Task for Count {
     type Output = u32;
 
-    ghost gives = { λ _ _ _ _ _. Unit {0} };
+    ghost gives = { λ _ _ _ _ _ _. Unit {0} };
 
     fn run<S: Pile>(self, pile: S) -> u32 {
         pile.count()

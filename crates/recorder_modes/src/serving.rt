@@ -27,7 +27,7 @@ impl Task for Serve<'_> {
     type Output = anyhow::Result<()>;
 
     // nothing is promised of what is read and written
-    ghost gives = { λ task steps meaning state output. Unit {0} };
+    ghost gives = { λ task steps meaning held state output. Unit {0} };
 
     fn run<S: Pile>(self, pile: S) -> anyhow::Result<()> {
         let Serve { rt, options } = self;

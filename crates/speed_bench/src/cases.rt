@@ -29,7 +29,7 @@ impl Task for TimeCases<'_> {
     type Output = anyhow::Result<()>;
 
     // nothing is promised of what is timed
-    ghost gives = { λ task steps meaning state output. Unit {0} };
+    ghost gives = { λ task steps meaning held state output. Unit {0} };
 
     fn run<S: Pile>(self, pile: S) -> anyhow::Result<()> {
         let TimeCases { rt, blocks } = self;
