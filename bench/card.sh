@@ -1,10 +1,12 @@
 #!/bin/sh
 # Times puts and reads on full flash cards, of one page more than blocks, as the card is and as it was before it kept
-# tables of its pages, and prints a table. Wants rt and git. Takes about an hour, most of it for one put on the old card of
-# 1,000,000 pages.
+# tables of its pages, and prints a table. Wants rt and git. Takes some minutes.
+#
+# usage: card.sh [SECONDS]    how long a put on the old card of 1,000,000 pages may take, 300 by default
 set -eu
 
 top=$(cd "$(dirname "$0")/.." && pwd)
+limit=${1-300}
 work=$(mktemp -d)
 trap 'rm -rf "$work"' EXIT
 
@@ -49,6 +51,16 @@ line() {
         "$(shown "$7" "$6")" "$(shown "${14}" "${13}")" "${10}"
 }
 
+# The time of a put on the old card of 1,000,000 pages, which takes hours: it is stopped when the limit is over.
+longest_put() {
+    put=$(timeout "$limit" "$work/before/crates/card_bench/out/card_bench" 999999 1 0 | cut -d ' ' -f 4)
+    if [ -n "$put" ]; then
+        shown "$put" 1
+    else
+        echo "> $limit s"
+    fi
+}
+
 clone_before
 build "$work/before"
 build "$top"
@@ -59,4 +71,4 @@ echo '|---|---|---|---|---|---|'
 line 1000 200 1000 100000 100000
 line 10000 5 1000 100000 100000
 line 100000 1 100 100000 100000
-line 1000000 1 20 100000 100000
+line 1000000 0 20 100000 100000 | sed "s/ - / $(longest_put) /"
