@@ -1,7 +1,7 @@
 #!/bin/sh
 # Times calls of stores and commands of the module over five piles, beside the same work in plain Rust (bench/plain) and
 # beside memcpy, all in one run. Prints for each case how many times as long as plain Rust and as memcpy it takes, and in
-# brackets millions of blocks a second. No buffer is cleared between calls. Wants rt and cargo. Takes some four minutes
+# brackets millions of blocks a second. No buffer is cleared between calls. Wants rt and cargo. Takes some five minutes
 # once both are built.
 #
 # usage: speed.sh [ROUNDS]    the median of so many rounds is taken, 5 by default
@@ -53,10 +53,11 @@ sort -k 1,4 -k 5,5n "$work/times" | awk -v rounds="$rounds" '
 
 cpu=$(sed -n 's/^model name.*: //p' /proc/cpuinfo | head -n 1)
 echo "$(date -u +%Y-%m-%d), $(nproc --all) cores, $cpu, load $(cut -d ' ' -f 1 /proc/loadavg); medians of $rounds rounds"
+echo 'no buffer is cleared between calls'
 awk '
     BEGIN {
         piles = split("flat flat+table flat+queue card card+queue+table", pile)
-        cases = split("put-random put-rising read-random read-rising write-1 write-8 write-128 read-128 sync-8", name)
+        cases = split("put-random put-rising read-random read-rising write-1 write-8 write-128 read-1 read-8 read-128 sync-8", name)
         sizes = split("1000 100000", size)
     }
     { ns[$1, $2, $3, $4] = $5 }

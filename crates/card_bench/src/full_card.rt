@@ -7,11 +7,11 @@ use store::BLOCK_BYTES;
 // the owner of a page that belongs to no block
 const NOBODY: u32 = u32::MAX;
 
-// The blocks lie in an order that the generator gives, and hold zeros. The last page is free.
+// The blocks lie in an order that the generator gives, and hold zeros. The page in the middle is free.
 pub fn full_card<R: Rng>(heap: Global, rng: &mut R, blocks: u32) -> Result<Vec<u8>, AllocError> {
     let mut owners: Vec<u32> = (0..blocks).collect(heap)?;
     owners.shuffle(rng);
-    owners.push(NOBODY)?;
+    owners.insert(owners.len() / 2, NOBODY)?;
     let mut memory = Vec::new(heap);
     for owner in owners {
         memory.extend_from_slice(&owner.to_be_bytes())?;

@@ -52,6 +52,8 @@ impl Task for TimeCases<'_> {
             &rising(heap, blocks, 128)?,
             128,
         )?;
+        time_read_commands(rt, "read-1", &mut module, &random(heap, blocks, 1)?, 1)?;
+        time_read_commands(rt, "read-8", &mut module, &random(heap, blocks, 8)?, 8)?;
         time_read_commands(
             rt,
             "read-128",

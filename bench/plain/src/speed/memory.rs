@@ -16,6 +16,8 @@ pub fn time_memory(blocks: u32) {
     time_into("write-1", &mut memory, random(blocks, 1), 1);
     time_into("write-8", &mut memory, random(blocks, 8), 8);
     time_into("write-128", &mut memory, rising(blocks, 128), 128);
+    time_out_of("read-1", &memory, random(blocks, 1), 1);
+    time_out_of("read-8", &memory, random(blocks, 8), 8);
     time_out_of("read-128", &memory, rising(blocks, 128), 128);
     time_into("sync-8", &mut memory, random(blocks, 8), 8);
 }

@@ -30,6 +30,8 @@ pub fn time_pile(mut store: impl Store) {
     time_writes("write-1", &mut module, random(blocks, 1), 1);
     time_writes("write-8", &mut module, random(blocks, 8), 8);
     time_writes("write-128", &mut module, rising(blocks, 128), 128);
+    time_read_commands("read-1", &mut module, random(blocks, 1), 1);
+    time_read_commands("read-8", &mut module, random(blocks, 8), 8);
     time_read_commands("read-128", &mut module, rising(blocks, 128), 128);
     time_synchronized("sync-8", &mut module, random(blocks, 8), 8);
 }

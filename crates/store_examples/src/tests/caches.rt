@@ -1,7 +1,6 @@
 // The caches over a flat medium: what waits in them, and what they write back, in which order.
 use super::calls::*;
 use super::setup::*;
-use crate::filled;
 use crate::memory::blocks;
 use queue_cache::QueueCache;
 use std::test::Fail;
@@ -14,10 +13,10 @@ fn table_has_no_block_past_the_last(rt: HostRuntime) -> Result<(), Fail> {
     for grant in [GRANT, 0] {
         let mut cache = TableCache::new(rt.alloc(), flat(rt.alloc(), &[1, 2], grant)?)?;
         block_answers(&mut cache, 2, NO_SUCH_BLOCK)?;
-        assert_eq!(rt; cache.pending(), 0);
+        same(cache.pending(), 0)?;
         let medium = cache.into_below();
-        assert_eq!(rt; medium.grant(), grant);
-        assert_eq!(rt; medium.into_memory(), blocks(rt.alloc(), &[1, 2])?);
+        same(medium.grant(), grant)?;
+        same(medium.into_memory(), blocks(rt.alloc(), &[1, 2])?)?;
     }
     Ok(())
 }
@@ -27,7 +26,7 @@ fn table_has_no_block_past_the_last(rt: HostRuntime) -> Result<(), Fail> {
 fn table_evicts_the_slot_at_the_hand(rt: HostRuntime) -> Result<(), Fail> {
     let mut cache = TableCache::new(rt.alloc(), flat(rt.alloc(), &[0; 10], GRANT)?)?;
     put_in_turn(&mut cache, 9)?;
-    assert_eq!(rt; cache.pending(), 8);
+    same(cache.pending(), 8)?;
     let after = [1, 0, 0, 0, 0, 0, 0, 0, 0, 0];
     stands(rt.alloc(), cache.into_below(), 1, &after)
 }
@@ -37,16 +36,15 @@ fn table_evicts_the_slot_at_the_hand(rt: HostRuntime) -> Result<(), Fail> {
 fn the_hand_moves_on(rt: HostRuntime) -> Result<(), Fail> {
     let mut cache = TableCache::new(rt.alloc(), flat(rt.alloc(), &[0; 10], GRANT)?)?;
     put_in_turn(&mut cache, 10)?;
-    assert_eq!(rt; cache.pending(), 8);
+    same(cache.pending(), 8)?;
     let after = [1, 2, 0, 0, 0, 0, 0, 0, 0, 0];
     stands(rt.alloc(), cache.into_below(), 2, &after)
 }
 
 // Puts block 1 twice, reads it and flushes.
 fn put_twice_and_flush<S: Store>(store: &mut S) -> Result<(), Fail> {
-    store.put_block(1, &filled(7))?;
-    store.put_block(1, &filled(8))?;
-    same(store.read_block(1)?, filled(8))?;
+    put_each(store, &[(1, 7), (1, 8)])?;
+    shows(store, 1, 8)?;
     store.flush()?;
     Ok(())
 }
@@ -55,7 +53,7 @@ fn put_twice_and_flush<S: Store>(store: &mut S) -> Result<(), Fail> {
 fn table_stores_a_block_once(rt: HostRuntime) -> Result<(), Fail> {
     let mut cache = TableCache::new(rt.alloc(), flat(rt.alloc(), &[0, 0], GRANT)?)?;
     put_twice_and_flush(&mut cache)?;
-    assert_eq!(rt; cache.pending(), 0);
+    same(cache.pending(), 0)?;
     stands(rt.alloc(), cache.into_below(), 1, &[0, 8])
 }
 
@@ -63,7 +61,7 @@ fn table_stores_a_block_once(rt: HostRuntime) -> Result<(), Fail> {
 fn queue_stores_every_put(rt: HostRuntime) -> Result<(), Fail> {
     let mut cache = QueueCache::new(rt.alloc(), flat(rt.alloc(), &[0, 0], GRANT)?)?;
     put_twice_and_flush(&mut cache)?;
-    assert_eq!(rt; cache.pending(), 0);
+    same(cache.pending(), 0)?;
     stands(rt.alloc(), cache.into_below(), 2, &[0, 8])
 }
 
@@ -71,12 +69,9 @@ fn queue_stores_every_put(rt: HostRuntime) -> Result<(), Fail> {
 #[test]
 fn force_puts_down_what_is_older(rt: HostRuntime) -> Result<(), Fail> {
     let mut cache = QueueCache::new(rt.alloc(), flat(rt.alloc(), &[0, 0, 0], GRANT)?)?;
-    cache.put_block(0, &filled(1))?;
-    cache.put_block(1, &filled(2))?;
-    cache.put_block(0, &filled(3))?;
-    cache.put_block(2, &filled(4))?;
+    put_each(&mut cache, &[(0, 1), (1, 2), (0, 3), (2, 4)])?;
     cache.force_block(0)?;
-    assert_eq!(rt; cache.pending(), 1);
+    same(cache.pending(), 1)?;
     stands(rt.alloc(), cache.into_below(), 3, &[3, 2, 0])
 }
 
@@ -84,7 +79,7 @@ fn force_puts_down_what_is_older(rt: HostRuntime) -> Result<(), Fail> {
 fn seventeenth_put_pushes_the_oldest_down(rt: HostRuntime) -> Result<(), Fail> {
     let mut cache = QueueCache::new(rt.alloc(), flat(rt.alloc(), &[0; 17], GRANT)?)?;
     put_in_turn(&mut cache, 17)?;
-    assert_eq!(rt; cache.pending(), 16);
+    same(cache.pending(), 16)?;
     let mut after = [0; 17];
     after[0] = 1;
     stands(rt.alloc(), cache.into_below(), 1, &after)

@@ -1,23 +1,19 @@
 // The pages of the flash card: which one a block shows, which one a put takes, and which become free.
+use super::calls::*;
 use super::setup::*;
-use crate::filled;
 use crate::memory::*;
 use flash_card::FlashCard;
 use std::alloc::Global;
 use std::test::Fail;
-use store::Store;
 
 // A new card, of FFh bytes throughout, has no block's content yet.
 #[test]
 fn a_second_put_frees_the_first_page(rt: HostRuntime) -> Result<(), Fail> {
     let mut card = card(rt.alloc(), 2, &[free(0xff); 3], GRANT)?;
-    card.put_block(1, &filled(7))?;
-    card.put_block(1, &filled(8))?;
-    assert_eq!(rt; card.read_block(0)?, filled(0));
-    assert_eq!(rt; card.read_block(1)?, filled(8));
+    put_each(&mut card, &[(1, 7), (1, 8)])?;
+    show_each(&mut card, &[0, 8])?;
     let after = [free(7), owned(1, 8), free(0xff)];
-    assert_eq!(rt; card.into_memory(), pages(rt.alloc(), &after)?);
-    Ok(())
+    has_pages(rt.alloc(), card, &after)
 }
 
 // Each block has two pages, and page 2 an owner that is no block.
@@ -35,21 +31,17 @@ fn worn_card(heap: Global) -> Result<FlashCard, Fail> {
 #[test]
 fn a_block_shows_its_first_page(rt: HostRuntime) -> Result<(), Fail> {
     let mut card = worn_card(rt.alloc())?;
-    assert_eq!(rt; card.read_block(0)?, filled(13));
-    assert_eq!(rt; card.read_block(1)?, filled(10));
-    Ok(())
+    show_each(&mut card, &[13, 10])
 }
 
 // The page taken is the other block's second one.
 #[test]
 fn a_put_frees_every_other_page_of_the_block(rt: HostRuntime) -> Result<(), Fail> {
     let mut card = worn_card(rt.alloc())?;
-    card.put_block(0, &filled(20))?;
-    assert_eq!(rt; card.read_block(0)?, filled(20));
-    assert_eq!(rt; card.read_block(1)?, filled(10));
+    put(&mut card, 0, 20)?;
+    show_each(&mut card, &[20, 10])?;
     let after = [owned(1, 10), owned(0, 20), owned(9, 12), free(13), free(14)];
-    assert_eq!(rt; card.into_memory(), pages(rt.alloc(), &after)?);
-    Ok(())
+    has_pages(rt.alloc(), card, &after)
 }
 
 // The third put finds page 2 taken, and so goes round to page 0.
@@ -57,25 +49,21 @@ fn a_put_frees_every_other_page_of_the_block(rt: HostRuntime) -> Result<(), Fail
 fn puts_go_round_from_the_hand(rt: HostRuntime) -> Result<(), Fail> {
     let before = [owned(9, 10), owned(0, 11), owned(1, 12)];
     let mut card = card(rt.alloc(), 2, &before, GRANT)?;
-    card.put_block(0, &filled(20))?;
-    card.put_block(0, &filled(21))?;
-    card.put_block(0, &filled(22))?;
-    assert_eq!(rt; card.read_block(1)?, filled(12));
+    put_each(&mut card, &[(0, 20), (0, 21), (0, 22)])?;
+    show_each(&mut card, &[22, 12])?;
     let after = [owned(0, 22), free(21), owned(1, 12)];
-    assert_eq!(rt; card.into_memory(), pages(rt.alloc(), &after)?);
-    Ok(())
+    has_pages(rt.alloc(), card, &after)
 }
 
 #[test]
 fn two_pages_alternate(rt: HostRuntime) -> Result<(), Fail> {
     let mut card = card(rt.alloc(), 1, &[free(0xff); 2], GRANT)?;
     for byte in [1, 2, 3] {
-        card.put_block(0, &filled(byte))?;
-        assert_eq!(rt; card.read_block(0)?, filled(byte));
+        put(&mut card, 0, byte)?;
+        shows(&mut card, 0, byte)?;
     }
     let after = [owned(0, 3), free(2)];
-    assert_eq!(rt; card.into_memory(), pages(rt.alloc(), &after)?);
-    Ok(())
+    has_pages(rt.alloc(), card, &after)
 }
 
 // Three pages and a part of one more: the fourth put goes round to page 0.
@@ -86,11 +74,8 @@ fn bytes_past_the_last_page_stay(rt: HostRuntime) -> Result<(), Fail> {
     before.extend_from_slice(&past)?;
     FlashCard::check(&before, 2)?;
     let mut card = FlashCard::new(before, 2, GRANT)?;
-    for byte in [20, 21, 22, 23] {
-        card.put_block(0, &filled(byte))?;
-    }
+    put_each(&mut card, &[(0, 20), (0, 21), (0, 22), (0, 23)])?;
     let mut after = pages(rt.alloc(), &[owned(0, 23), free(21), free(22)])?;
     after.extend_from_slice(&past)?;
-    assert_eq!(rt; card.into_memory(), after);
-    Ok(())
+    same(card.into_memory(), after)
 }

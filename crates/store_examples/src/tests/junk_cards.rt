@@ -2,15 +2,13 @@
 // call.
 ghost use Rattle.std.specs.Prelude.{◌<◌};
 
-use super::calls::same;
+use super::calls::*;
 use super::setup::*;
-use crate::filled;
 use crate::memory::*;
 use rand::RngExt;
 use rand_pcg::Pcg32;
 use std::alloc::Global;
 use std::test::Fail;
-use store::Store;
 
 // A card of a few blocks that looks at every page at each call.
 #[derive(Drop)]
@@ -75,13 +73,13 @@ fn works_alike(heap: Global, count: u32, before: &[Page], puts: u32) -> Result<(
     for _ in 0..puts {
         let block = rng.random_range(0..count);
         let byte = rng.random_range(1..=255);
-        card.put_block(block, &filled(byte))?;
+        put(&mut card, block, byte)?;
         plain.put(block, byte);
     }
     for block in 0..count {
-        same(card.read_block(block)?, filled(plain.shown(block)))?;
+        shows(&mut card, block, plain.shown(block))?;
     }
-    same(card.into_memory(), pages(heap, &plain.pages)?)
+    has_pages(heap, card, &plain.pages)
 }
 
 // So many pages, whose owners are random numbers below the bound.

@@ -1,13 +1,12 @@
 // The media: what they are made over, what they refuse, and the last store of their grant.
 use super::calls::*;
 use super::setup::*;
-use crate::filled;
 use crate::memory::*;
 use flash_card::FlashCard;
 use flat_medium::FlatMedium;
 use medium::check_number;
 use std::test::Fail;
-use store::{Store, answer_number};
+use store::Store;
 
 #[test]
 fn flat_memory_is_checked(rt: HostRuntime) {
@@ -35,8 +34,8 @@ fn flat_has_no_block_past_the_last(rt: HostRuntime) -> Result<(), Fail> {
         let mut medium = flat(rt.alloc(), &[1, 2, 3], grant)?;
         block_answers(&mut medium, 3, NO_SUCH_BLOCK)?;
         block_answers(&mut medium, 0xffff_ffff, NO_SUCH_BLOCK)?;
-        assert_eq!(rt; medium.grant(), grant);
-        assert_eq!(rt; medium.into_memory(), blocks(rt.alloc(), &[1, 2, 3])?);
+        same(medium.grant(), grant)?;
+        same(medium.into_memory(), blocks(rt.alloc(), &[1, 2, 3])?)?;
     }
     Ok(())
 }
@@ -45,22 +44,20 @@ fn flat_has_no_block_past_the_last(rt: HostRuntime) -> Result<(), Fail> {
 #[test]
 fn flat_makes_its_last_store(rt: HostRuntime) -> Result<(), Fail> {
     let mut medium = flat(rt.alloc(), &[0, 0], 1)?;
-    assert!(rt; medium.power());
-    assert_eq!(rt; answer_number(&medium.put_block(1, &filled(7))), POWER_OFF);
+    same(medium.power(), true)?;
+    put_answers(&mut medium, 1, 7, POWER_OFF)?;
     is_off(&mut medium)?;
-    assert_eq!(rt; medium.into_memory(), blocks(rt.alloc(), &[0, 7])?);
-    Ok(())
+    same(medium.into_memory(), blocks(rt.alloc(), &[0, 7])?)
 }
 
 #[test]
 fn card_makes_its_last_store(rt: HostRuntime) -> Result<(), Fail> {
     let mut card = card(rt.alloc(), 1, &[owned(0, 6), free(0)], 1)?;
-    assert!(rt; card.power());
-    assert_eq!(rt; answer_number(&card.put_block(0, &filled(7))), POWER_OFF);
+    same(card.power(), true)?;
+    put_answers(&mut card, 0, 7, POWER_OFF)?;
     is_off(&mut card)?;
     let after = [free(6), owned(0, 7)];
-    assert_eq!(rt; card.into_memory(), pages(rt.alloc(), &after)?);
-    Ok(())
+    has_pages(rt.alloc(), card, &after)
 }
 
 #[test]
