@@ -1,12 +1,13 @@
 #!/bin/sh
 # Times puts and reads on full flash cards, of one page more than blocks, as the card is and as it was before it kept
-# tables of its pages, and prints a table. Wants rt and git. Takes some minutes.
+# tables of its pages, and prints a table. Wants rt and git. Takes half an hour, nearly all of it for one put on the old
+# card of 1,000,000 pages.
 #
-# usage: card.sh [SECONDS]    how long a put on the old card of 1,000,000 pages may take, 300 by default
+# usage: card.sh [SECONDS]    stops that put after so many seconds
 set -eu
 
 top=$(cd "$(dirname "$0")/.." && pwd)
-limit=${1-300}
+limit=${1-0}
 work=$(mktemp -d)
 trap 'rm -rf "$work"' EXIT
 
@@ -51,7 +52,7 @@ line() {
         "$(shown "$7" "$6")" "$(shown "${14}" "${13}")" "${10}"
 }
 
-# The time of a put on the old card of 1,000,000 pages, which takes hours: it is stopped when the limit is over.
+# The time of a put on the old card of 1,000,000 pages, or that it was stopped after the limit. A limit of 0 is none.
 longest_put() {
     put=$(timeout "$limit" "$work/before/crates/card_bench/out/card_bench" 999999 1 0 | cut -d ' ' -f 4)
     if [ -n "$put" ]; then

@@ -6,6 +6,3 @@ mod pile;
 
 pub use card::{CARD_BYTES, erased_card, reopened};
 pub use pile::{Pile, Remains, pile_over};
-
-#[cfg(test)]
-mod tests;

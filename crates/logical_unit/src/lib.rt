@@ -4,8 +4,6 @@
 mod host;
 mod settings;
 mod state;
-#[cfg(test)]
-mod tests;
 
 pub use host::{HOSTS, Host};
 pub use settings::Settings;

@@ -5,8 +5,6 @@ mod bottom;
 mod made;
 mod order;
 mod pile;
-#[cfg(test)]
-mod tests;
 
 pub use bottom::Bottom;
 pub use made::{MediumError, MediumKind, new_medium};

@@ -7,8 +7,6 @@ mod given;
 mod kinds;
 mod options;
 mod order;
-#[cfg(test)]
-mod tests;
 
 pub use choice::parse;
 pub use error::{Expected, OptionsError};

@@ -7,8 +7,6 @@ mod error;
 mod line;
 mod parts;
 mod script_text;
-#[cfg(test)]
-mod tests;
 mod words;
 
 pub use data::{MOST_BYTES, data_bytes};

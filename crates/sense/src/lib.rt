@@ -7,9 +7,6 @@ ghost use Rattle.sense.specs.Report.{attention_codes, error_report, report};
 
 use thiserror::Error;
 
-#[cfg(test)]
-mod tests;
-
 // A unit attention, the highest first: a pending one yields only to a higher one.
 #[derive(Clone, Copy, PartialEq, Eq, PartialOrd, Ord, Debug)]
 pub enum Attention {

@@ -2,6 +2,7 @@
 use Rattle.worked_examples.specs.RunScenes.{Premises, CountedContents, Times}
 use Rattle.worked_examples.specs.CommandScenes.{FlushAtMaking, DataInKept, CleanBlocks, Unloaded, NotedCalls}
 use Rattle.worked_examples.specs.ShiftScenes.{ShiftCounts}
+use Rattle.worked_examples.specs.CardScenes.{CardTables, NeverMet}
 
 pub record FurtherExamples : Type 0 where
   pub premises : Premises
@@ -13,3 +14,5 @@ pub record FurtherExamples : Type 0 where
   pub unloaded : Unloaded
   pub noted_calls : NotedCalls
   pub shift_counts : ShiftCounts
+  pub card_tables : CardTables
+  pub never_met : NeverMet

@@ -1,5 +1,5 @@
 // A good command line, the defaults, and the text of each error.
-use crate::{Asked, CacheKind, Medium, Mode, Options, OptionsError, parse};
+use recorder_options::{Asked, CacheKind, Medium, Mode, Options, OptionsError, parse};
 use std::alloc::Global;
 use std::test::Fail;
 

@@ -1,7 +1,7 @@
 // What a pile is when it is made, and what a recording leaves on the card. The helpers give a test plain values: a proof
 // takes long where a pile or a card is at hand.
-use super::*;
 use flash_card::FlashCard;
+use log_pile::{Pile, Remains, erased_card, pile_over, reopened};
 use shift_log::{Kind, LOG_BLOCKS, Outcome, Record, Shift, record_second, record_shift};
 use std::alloc::{AllocError, Global};
 use std::fmt::Debug;

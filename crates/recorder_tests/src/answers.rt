@@ -1,5 +1,5 @@
 // The text of each error.
-use crate::{Attention, CommandError};
+use sense::{Attention, CommandError};
 use std::test::Fail;
 
 #[test]

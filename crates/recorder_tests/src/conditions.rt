@@ -1,6 +1,6 @@
 // START STOP UNIT in every state of the medium and its power condition.
-use crate::{Condition, LogicalUnit, Settings};
 use commands::{PowerCondition, StartStop};
+use logical_unit::{Condition, LogicalUnit, Settings};
 use sense::Attention;
 
 const CONDITIONS: [Condition; 5] = [

@@ -1,6 +1,6 @@
 // New cards, and the text of each error.
-use crate::{Bottom, MediumError, MediumKind, Pile, PileError, Task, new_medium, with_pile};
 use flash_card::FlashCard;
+use piles::{Bottom, MediumError, MediumKind, Pile, PileError, Task, new_medium, with_pile};
 use recorder_options::CacheKind;
 use std::alloc::{AllocError, Global};
 use std::test::Fail;

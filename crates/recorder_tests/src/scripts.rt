@@ -1,5 +1,5 @@
 // A good script, and the text of each error.
-use crate::{Line, parse_line, parse_script};
+use script::{Line, parse_line, parse_script};
 use std::alloc::{AllocError, Global};
 use std::test::Fail;
 
