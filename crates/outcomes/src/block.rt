@@ -63,7 +63,7 @@ impl FoundBlock {
     }
 
     // Is the content another than the one that the block began with?
-    pub fn is_changed(&self) -> bool
+    pub(crate) fn is_changed(&self) -> bool
         ensures { result ≡ not (bytes_eq self.now.content (replicate 512 0)) }
     {
         self.content != NEW

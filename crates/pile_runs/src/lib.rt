@@ -6,5 +6,5 @@ mod run;
 mod setup;
 
 pub use calls::{FILL, calls_of, data_in_for};
-pub use run::{Run, play_over};
+pub use run::Run;
 pub use setup::{PlayError, medium_kind, play_with};

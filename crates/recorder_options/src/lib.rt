@@ -10,5 +10,5 @@ mod order;
 
 pub use choice::parse;
 pub use error::{Expected, OptionsError};
-pub use kinds::{CacheKind, Medium, Mode, Name, Setting, cache_named, medium_named, option_named};
+pub use kinds::{CacheKind, Medium, Mode, Name, Setting};
 pub use options::{Asked, Options};

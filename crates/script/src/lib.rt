@@ -9,10 +9,9 @@ mod parts;
 mod script_text;
 mod words;
 
-pub use data::{MOST_BYTES, data_bytes};
-pub use digits::{hex_byte, hex_bytes, hex_digit, number, number_between};
+pub use data::MOST_BYTES;
+pub use digits::{number, number_between};
 pub use error::{Expected, LineError};
 pub use line::{CommandLine, Line, parse_line};
 pub use parts::first_part;
 pub use script_text::{ScriptError, parse_script};
-pub use words::next_word;

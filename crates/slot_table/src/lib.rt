@@ -45,7 +45,7 @@ impl SlotTable {
     }
 
     // The place of the first empty slot.
-    pub fn empty_slot(&self) -> Option<usize>
+    fn empty_slot(&self) -> Option<usize>
         ensures { result ≡ at_place self.now.slots.items (empty_slot self.now.slots.items) }
     {
         self.slots.iter().position(Option::is_none)
