@@ -68,6 +68,12 @@ pub fn block_answers<S: Store>(store: &mut S, block: u32, number: u8) -> Result<
     same(answer_number(&store.force_block(block)), number)
 }
 
+// The store, which has no such block.
+pub fn without_block<S: Store + Drop>(mut store: S, block: u32) -> Result<S, Fail> {
+    block_answers(&mut store, block, NO_SUCH_BLOCK)?;
+    Ok(store)
+}
+
 // Power is off, and each call says so.
 pub fn is_off<S: Store>(store: &mut S) -> Result<(), Fail> {
     same(store.power(), false)?;
@@ -85,7 +91,14 @@ pub fn put_in_turn<S: Store>(store: &mut S, count: u8) -> Result<(), StoreError>
 
 // So many stores were made, and these blocks stand on the medium, each with its byte throughout.
 pub fn stands(heap: Global, medium: FlatMedium, stores: u32, bytes: &[u8]) -> Result<(), Fail> {
-    same(stores_made(medium.grant()), stores)?;
+    let made = stores_made(medium.grant());
+    same(medium.into_memory(), blocks(heap, bytes)?)?;
+    same(made, stores)
+}
+
+// So much is left of the medium's grant, and these blocks stand on it, each with its byte throughout.
+pub fn is_left(heap: Global, medium: FlatMedium, grant: u32, bytes: &[u8]) -> Result<(), Fail> {
+    same(medium.grant(), grant)?;
     same(medium.into_memory(), blocks(heap, bytes)?)
 }
 

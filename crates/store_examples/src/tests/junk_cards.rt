@@ -9,6 +9,7 @@ use rand::RngExt;
 use rand_pcg::Pcg32;
 use std::alloc::Global;
 use std::test::Fail;
+use store::{Store, StoreError};
 
 // A card of a few blocks that looks at every page at each call.
 #[derive(Drop)]
@@ -24,7 +25,8 @@ impl PlainCard {
     }
 
     fn is_free(&self, place: usize, page: &Page) -> bool {
-        page.owner >= self.count || self.first_page(page.owner) != Some(place)
+        let shown = page.owner < self.count && self.first_page(page.owner) == Some(place);
+        !shown
     }
 
     // The first free page from this one on.
@@ -37,8 +39,13 @@ impl PlainCard {
             .map(|(place, _)| place)
     }
 
+    // The page that a put takes.
+    fn free_page(&self) -> Option<usize> {
+        self.free_from(self.hand).or_else(|| self.free_from(0))
+    }
+
     fn put(&mut self, block: u32, byte: u8) {
-        let Some(taken) = self.free_from(self.hand).or_else(|| self.free_from(0)) else {
+        let Some(taken) = self.free_page() else {
             return;
         };
         for page in &mut self.pages {
@@ -59,26 +66,55 @@ impl PlainCard {
     }
 }
 
+// A block, or an owner, below the bound, and a byte of a content that was put.
+fn random(rng: &mut Pcg32, bound: u32) -> (u32, u8)
+    requires { 0 < bound }
+{
+    let number = rng.random_range(0..bound);
+    (number, rng.random_range(1..=255))
+}
+
+// Puts random contents to random blocks of both, so many times.
+fn put_to_both<S: Store>(store: &mut S, plain: &mut PlainCard, puts: u32) -> Result<(), StoreError>
+    requires { 0 < plain.old.count }
+{
+    let count = plain.count;
+    let mut rng = Pcg32::new(42, 54);
+    for _ in 0..puts {
+        let (block, byte) = random(&mut rng, count);
+        put(store, block, byte)?;
+        plain.put(block, byte);
+    }
+    Ok(())
+}
+
+// Each block shows what it shows on the plain card.
+fn shows_alike<S: Store>(store: &mut S, plain: &PlainCard) -> Result<(), Fail> {
+    for block in 0..plain.count {
+        shows(store, block, plain.shown(block))?;
+    }
+    Ok(())
+}
+
+// The store after so many puts to it and the plain card: it must show what the plain one shows.
+fn alike_after<S: Store + Drop>(mut store: S, plain: &mut PlainCard, puts: u32) -> Result<S, Fail>
+    requires { 0 < plain.old.count }
+{
+    put_to_both(&mut store, plain, puts)?;
+    shows_alike(&mut store, plain)?;
+    Ok(store)
+}
+
 // After so many puts of random blocks the card shows what the plain one shows, and its memory is the same.
 fn works_alike(heap: Global, count: u32, before: &[Page], puts: u32) -> Result<(), Fail>
     requires { 0 < count }
 {
-    let mut rng = Pcg32::new(42, 54);
-    let mut card = card(heap, count, before, GRANT)?;
     let mut plain = PlainCard {
         pages: before.to_vec(heap)?,
         count,
         hand: 0,
     };
-    for _ in 0..puts {
-        let block = rng.random_range(0..count);
-        let byte = rng.random_range(1..=255);
-        put(&mut card, block, byte)?;
-        plain.put(block, byte);
-    }
-    for block in 0..count {
-        shows(&mut card, block, plain.shown(block))?;
-    }
+    let card = alike_after(card(heap, count, before, GRANT)?, &mut plain, puts)?;
     has_pages(heap, card, &plain.pages)
 }
 
@@ -88,10 +124,20 @@ fn junk(heap: Global, rng: &mut Pcg32, count: usize, bound: u32) -> Result<Vec<P
 {
     let mut pages = Vec::new(heap);
     for _ in 0..count {
-        let owner = rng.random_range(0..bound);
-        pages.push(owned(owner, rng.random_range(1..=255)))?;
+        let (owner, byte) = random(rng, bound);
+        pages.push(owned(owner, byte))?;
     }
     Ok(pages)
+}
+
+// After each number of puts.
+fn work_alike(heap: Global, count: u32, before: &[Page], puts: &[u32]) -> Result<(), Fail>
+    requires { 0 < count }
+{
+    for puts in puts {
+        works_alike(heap, count, before, *puts)?;
+    }
+    Ok(())
 }
 
 // The numbers of puts after which cards are compared.
@@ -103,9 +149,7 @@ fn random_owners(rt: HostRuntime) -> Result<(), Fail> {
     let mut rng = Pcg32::new(1, 1);
     for _ in 0..10 {
         let pages = junk(rt.alloc(), &mut rng, 12, 8)?;
-        for puts in PUTS {
-            works_alike(rt.alloc(), 5, &pages, puts)?;
-        }
+        work_alike(rt.alloc(), 5, &pages, &PUTS)?;
     }
     Ok(())
 }
@@ -115,10 +159,7 @@ fn random_owners(rt: HostRuntime) -> Result<(), Fail> {
 fn many_pages_for_a_block(rt: HostRuntime) -> Result<(), Fail> {
     let mut rng = Pcg32::new(2, 2);
     let pages = junk(rt.alloc(), &mut rng, 30, 3)?;
-    for puts in PUTS {
-        works_alike(rt.alloc(), 3, &pages, puts)?;
-    }
-    Ok(())
+    work_alike(rt.alloc(), 3, &pages, &PUTS)
 }
 
 #[test]
@@ -131,21 +172,17 @@ fn owners_at_the_count_and_above(rt: HostRuntime) -> Result<(), Fail> {
         owned(3, 14),
         owned(0xffff_fffe, 15),
     ];
-    for puts in PUTS {
-        works_alike(rt.alloc(), 3, &pages, puts)?;
-        works_alike(rt.alloc(), 4, &pages, puts)?;
-        works_alike(rt.alloc(), 5, &pages, puts)?;
-    }
-    Ok(())
+    work_alike(rt.alloc(), 3, &pages, &PUTS)?;
+    work_alike(rt.alloc(), 4, &pages, &PUTS)?;
+    work_alike(rt.alloc(), 5, &pages, &PUTS)
 }
 
 #[test]
 fn one_block_on_two_pages(rt: HostRuntime) -> Result<(), Fail> {
     for first in [0, 1, 0xffff_ffff] {
         for second in [0, 1, 0xffff_ffff] {
-            for puts in PUTS {
-                works_alike(rt.alloc(), 1, &[owned(first, 10), owned(second, 11)], puts)?;
-            }
+            let pages = [owned(first, 10), owned(second, 11)];
+            work_alike(rt.alloc(), 1, &pages, &PUTS)?;
         }
     }
     Ok(())
@@ -156,10 +193,7 @@ fn one_block_on_two_pages(rt: HostRuntime) -> Result<(), Fail> {
 fn more_pages_than_a_group(rt: HostRuntime) -> Result<(), Fail> {
     let mut rng = Pcg32::new(3, 3);
     let pages = junk(rt.alloc(), &mut rng, 600, 599)?;
-    for puts in [1, 20, 60] {
-        works_alike(rt.alloc(), 599, &pages, puts)?;
-    }
-    Ok(())
+    work_alike(rt.alloc(), 599, &pages, &[1, 20, 60])
 }
 
 // So many blocks, each on the page of its number, and behind them the one page that is free.
@@ -176,8 +210,5 @@ fn full(heap: Global, count: u32) -> Result<Vec<Page>, Fail> {
 #[test]
 fn one_free_page_in_a_large_card(rt: HostRuntime) -> Result<(), Fail> {
     let pages = full(rt.alloc(), 4199)?;
-    for puts in [1, 2, 5] {
-        works_alike(rt.alloc(), 4199, &pages, puts)?;
-    }
-    Ok(())
+    work_alike(rt.alloc(), 4199, &pages, &[1, 2, 5])
 }

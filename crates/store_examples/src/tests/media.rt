@@ -2,96 +2,101 @@
 use super::calls::*;
 use super::setup::*;
 use crate::memory::*;
-use flash_card::FlashCard;
-use flat_medium::FlatMedium;
-use medium::check_number;
+use flash_card::Card;
+use flat_medium::{Flat, FlatMedium};
+use medium::{BlockMedium, Layout, check_number};
+use std::alloc::Global;
+use std::fmt::Display;
 use std::test::Fail;
-use store::Store;
+use store::{Store, StoreError};
+
+// The check of this memory and count has the answer of this number.
+fn check_answers<L: Layout>(memory: &[u8], count: u32, number: u8) -> Result<(), Fail> {
+    same(check_number(BlockMedium::<L>::check(memory, count)), number)
+}
 
 #[test]
-fn flat_memory_is_checked(rt: HostRuntime) {
-    assert_eq!(rt; check_number(FlatMedium::check(&[0; 1024], 0)), 17);
-    assert_eq!(rt; check_number(FlatMedium::check(&[0; 1024], 16_777_217)), 17);
-    assert_eq!(rt; check_number(FlatMedium::check(&[0; 1024], 16_777_216)), 18);
-    assert_eq!(rt; check_number(FlatMedium::check(&[0; 1023], 2)), 18);
-    assert_eq!(rt; check_number(FlatMedium::check(&[0; 1024], 2)), 0);
+fn flat_memory_is_checked() -> Result<(), Fail> {
+    check_answers::<Flat>(&[0; 1024], 0, 17)?;
+    check_answers::<Flat>(&[0; 1024], 16_777_217, 17)?;
+    check_answers::<Flat>(&[0; 1024], 16_777_216, 18)?;
+    check_answers::<Flat>(&[0; 1023], 2, 18)?;
+    check_answers::<Flat>(&[0; 1024], 2, 0)
 }
 
 // Two blocks take three pages.
 #[test]
-fn card_memory_is_checked(rt: HostRuntime) {
-    assert_eq!(rt; check_number(FlashCard::check(&[0; 1548], 0)), 17);
-    assert_eq!(rt; check_number(FlashCard::check(&[0; 1548], 16_777_217)), 17);
-    assert_eq!(rt; check_number(FlashCard::check(&[0; 1548], 16_777_216)), 18);
-    assert_eq!(rt; check_number(FlashCard::check(&[0; 1547], 2)), 18);
-    assert_eq!(rt; check_number(FlashCard::check(&[0; 1548], 2)), 0);
+fn card_memory_is_checked() -> Result<(), Fail> {
+    check_answers::<Card>(&[0; 1548], 0, 17)?;
+    check_answers::<Card>(&[0; 1548], 16_777_217, 17)?;
+    check_answers::<Card>(&[0; 1548], 16_777_216, 18)?;
+    check_answers::<Card>(&[0; 1547], 2, 18)?;
+    check_answers::<Card>(&[0; 1548], 2, 0)
 }
 
 // With power and without.
 #[test]
 fn flat_has_no_block_past_the_last(rt: HostRuntime) -> Result<(), Fail> {
     for grant in [5, 0] {
-        let mut medium = flat(rt.alloc(), &[1, 2, 3], grant)?;
-        block_answers(&mut medium, 3, NO_SUCH_BLOCK)?;
-        block_answers(&mut medium, 0xffff_ffff, NO_SUCH_BLOCK)?;
-        same(medium.grant(), grant)?;
-        same(medium.into_memory(), blocks(rt.alloc(), &[1, 2, 3])?)?;
+        let medium = without_block(flat(rt.alloc(), &[1, 2, 3], grant)?, 3)?;
+        let medium = without_block(medium, 0xffff_ffff)?;
+        is_left(rt.alloc(), medium, grant, &[1, 2, 3])?;
     }
     Ok(())
+}
+
+// The store after a put that takes the last of the grant: it had power, and now is off.
+fn last_put<S: Store + Drop>(mut store: S, block: u32, byte: u8) -> Result<S, Fail> {
+    same(store.power(), true)?;
+    put_answers(&mut store, block, byte, POWER_OFF)?;
+    is_off(&mut store)?;
+    Ok(store)
 }
 
 // The put that takes the last of the grant answers that power is lost, and yet its content is there.
 #[test]
 fn flat_makes_its_last_store(rt: HostRuntime) -> Result<(), Fail> {
-    let mut medium = flat(rt.alloc(), &[0, 0], 1)?;
-    same(medium.power(), true)?;
-    put_answers(&mut medium, 1, 7, POWER_OFF)?;
-    is_off(&mut medium)?;
-    same(medium.into_memory(), blocks(rt.alloc(), &[0, 7])?)
+    let medium = last_put(flat(rt.alloc(), &[0, 0], 1)?, 1, 7)?;
+    is_left(rt.alloc(), medium, 0, &[0, 7])
 }
 
 #[test]
 fn card_makes_its_last_store(rt: HostRuntime) -> Result<(), Fail> {
-    let mut card = card(rt.alloc(), 1, &[owned(0, 6), free(0)], 1)?;
-    same(card.power(), true)?;
-    put_answers(&mut card, 0, 7, POWER_OFF)?;
-    is_off(&mut card)?;
+    let before = [owned(0, 6), free(0)];
+    let card = last_put(card(rt.alloc(), 1, &before, 1)?, 0, 7)?;
     let after = [free(6), owned(0, 7)];
     has_pages(rt.alloc(), card, &after)
 }
 
+// The answer is an error with this text.
+fn says<E: Display + Drop>(heap: Global, answer: Result<(), E>, text: &str) -> Result<(), Fail> {
+    let Err(error) = answer else {
+        return Err("an error is expected".into());
+    };
+    same(error.to_string(heap)?.as_str(), text)
+}
+
+// The answers of a store of one block without power: to a flush, and to a force of its block and of another.
+fn refusals<S: Store + Drop>(mut store: S) -> [Result<(), StoreError>; 3] {
+    [store.flush(), store.force_block(0), store.force_block(1)]
+}
+
 #[test]
 fn errors_say_why_a_call_was_refused(rt: HostRuntime) -> Result<(), Fail> {
-    let mut medium = flat(rt.alloc(), &[1], 0)?;
-    for (answer, text) in [
-        (medium.flush(), "the power is off"),
-        (medium.force_block(0), "the power is off"),
-        (medium.force_block(1), "there is no such block"),
-    ] {
-        let Err(error) = answer else {
-            return Err("an error is expected".into());
-        };
-        assert_eq!(rt; error.to_string(rt.alloc())?.as_str(), text);
-    }
-    Ok(())
+    let [flushed, forced, past_the_last] = refusals(flat(rt.alloc(), &[1], 0)?);
+    says(rt.alloc(), flushed, "the power is off")?;
+    says(rt.alloc(), forced, "the power is off")?;
+    says(rt.alloc(), past_the_last, "there is no such block")
 }
 
 #[test]
 fn errors_say_why_memory_is_unfit(rt: HostRuntime) -> Result<(), Fail> {
-    for (answer, text) in [
-        (
-            FlatMedium::check(&[], 0),
-            "a medium has 1 to 16777216 blocks",
-        ),
-        (
-            FlatMedium::check(&[0; 511], 1),
-            "the memory is too small for the medium",
-        ),
-    ] {
-        let Err(error) = answer else {
-            return Err("an error is expected".into());
-        };
-        assert_eq!(rt; error.to_string(rt.alloc())?.as_str(), text);
-    }
-    Ok(())
+    let no_blocks = FlatMedium::check(&[], 0);
+    says(rt.alloc(), no_blocks, "a medium has 1 to 16777216 blocks")?;
+    let too_small = FlatMedium::check(&[0; 511], 1);
+    says(
+        rt.alloc(),
+        too_small,
+        "the memory is too small for the medium",
+    )
 }
