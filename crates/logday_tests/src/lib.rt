@@ -5,6 +5,8 @@
 #[cfg(test)]
 mod arguments;
 #[cfg(test)]
+mod checks;
+#[cfg(test)]
 mod recordings;
 #[cfg(test)]
 mod records;

@@ -1,24 +1,15 @@
 // What a pile is when it is made, and what a recording leaves on the card. The helpers give a test plain values: a proof
 // takes long where a pile or a card is at hand.
+use crate::checks::same;
 use flash_card::FlashCard;
 use log_pile::{Pile, Remains, erased_card, pile_over, reopened};
 use shift_log::{Kind, LOG_BLOCKS, Outcome, Record, Shift, record_second, record_shift};
 use std::alloc::{AllocError, Global};
-use std::fmt::Debug;
 use std::test::Fail;
 use store::{BLOCK_BYTES, Store, StoreError};
 
 // A grant of more stores than a recording makes.
 const GRANT: u32 = 100;
-
-// A test goes on only if what it found is what it wanted.
-fn same<T: PartialEq + Debug + Drop>(found: T, wanted: T) -> Result<(), Fail> {
-    if found == wanted {
-        Ok(())
-    } else {
-        Err(Fail::new(format_args!("{found:?}, and not {wanted:?}")))
-    }
-}
 
 // The pile over a new card of this grant.
 fn new_pile(heap: Global, grant: u32) -> Result<Pile, Fail> {
@@ -80,12 +71,17 @@ fn put_twice<S: Store + Drop>(mut store: S) -> Result<S, StoreError> {
     Ok(store)
 }
 
-// A third put, at the next power-on, filled with 9: its answer, and the memory after it.
+// The answer to a third put, filled with 9, and the store after it.
+fn put_again<S: Store>(mut store: S) -> (Result<(), StoreError>, S) {
+    let answer = put(&mut store, 11, 9);
+    (answer, store)
+}
+
+// The third put at the next power-on: its answer, and the memory after it.
 fn third_put(heap: Global) -> Result<(Result<(), StoreError>, Vec<u8>), Fail> {
     let card = put_twice(erased_card(heap, 5)?)?;
-    let mut again = reopened(card)?;
-    let answer = put(&mut again, 11, 9);
-    Ok((answer, again.into_memory()))
+    let (answer, card) = put_again(reopened(card)?);
+    Ok((answer, card.into_memory()))
 }
 
 // Adds a page: its owner's four bytes, and one byte throughout its content.
@@ -168,17 +164,21 @@ fn record_part<S: Store>(store: &mut S, shift: Shift, part: Part) -> Outcome {
     }
 }
 
+// How that ended, and the store after it.
+fn recorded<S: Store>(mut store: S, shift: Shift, part: Part) -> (Outcome, S) {
+    let outcome = record_part(&mut store, shift, part);
+    (outcome, store)
+}
+
 // This part of the shift, recorded on a new pile: how that ended, and what it left.
 fn on_pile(heap: Global, shift: Shift, part: Part) -> Result<(Outcome, LeftBehind), Fail> {
-    let mut pile = new_pile(heap, GRANT)?;
-    let outcome = record_part(&mut pile, shift, part);
+    let (outcome, pile) = recorded(new_pile(heap, GRANT)?, shift, part);
     Ok((outcome, left_by(pile)?))
 }
 
 // The shift, recorded on a new card of this grant, with no caches: how that ended, and the records.
 fn on_card(heap: Global, shift: Shift, grant: u32) -> Result<(Outcome, Records), Fail> {
-    let mut card = erased_card(heap, grant)?;
-    let outcome = record_part(&mut card, shift, Part::Whole);
+    let (outcome, card) = recorded(erased_card(heap, grant)?, shift, Part::Whole);
     Ok((outcome, records(card)?))
 }
 

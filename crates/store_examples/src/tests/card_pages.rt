@@ -83,20 +83,21 @@ fn two_pages_alternate(rt: HostRuntime) -> Result<(), Fail> {
     has_pages(rt.alloc(), shown_in_turn(card, &[1, 2, 3])?, &after)
 }
 
-// The memory of a card with these pages, and a hundred bytes more.
-fn pages_and_more(heap: Global, wanted: &[Page]) -> Result<Vec<u8>, AllocError> {
+// The memory of a card with these pages, and the bytes past the last one.
+fn pages_and_past(heap: Global, wanted: &[Page], past: &[u8]) -> Result<Vec<u8>, AllocError> {
     let mut memory = pages(heap, wanted)?;
-    memory.extend_from_slice(&[0xff; 100])?;
+    memory.extend_from_slice(past)?;
     Ok(memory)
 }
 
 // Three pages and a part of one more: the fourth put goes round to page 0.
 #[test]
 fn bytes_past_the_last_page_stay(rt: HostRuntime) -> Result<(), Fail> {
-    let before = pages_and_more(rt.alloc(), &[free(0xff); 3])?;
+    let past = [0xff; 100];
+    let before = pages_and_past(rt.alloc(), &[free(0xff); 3], &past)?;
     let puts = [(0, 20), (0, 21), (0, 22), (0, 23)];
     let card: FlashCard = shown_after(medium_over(before, 2, GRANT)?, &puts, &[])?;
     let memory = card.into_memory();
     let after = [owned(0, 23), free(21), free(22)];
-    same(memory, pages_and_more(rt.alloc(), &after)?)
+    same(memory, pages_and_past(rt.alloc(), &after, &past)?)
 }

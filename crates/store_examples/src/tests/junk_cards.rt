@@ -44,15 +44,20 @@ impl PlainCard {
         self.free_from(self.hand).or_else(|| self.free_from(0))
     }
 
-    fn put(&mut self, block: u32, byte: u8) {
-        let Some(taken) = self.free_page() else {
-            return;
-        };
+    // The block's pages become free.
+    fn give_up(&mut self, block: u32) {
         for page in &mut self.pages {
             if page.owner == block {
                 *page = free(page.byte);
             }
         }
+    }
+
+    fn put(&mut self, block: u32, byte: u8) {
+        let Some(taken) = self.free_page() else {
+            return;
+        };
+        self.give_up(block);
         if let Some(page) = self.pages.get_mut(taken) {
             *page = owned(block, byte);
         }

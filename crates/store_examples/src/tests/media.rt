@@ -34,12 +34,16 @@ fn card_memory_is_checked() -> Result<(), Fail> {
     check_answers::<Card>(&[0; 1548], 2, 0)
 }
 
+// The store, which has neither block 3 nor the one of the highest number.
+fn without_the_next<S: Store + Drop>(store: S) -> Result<S, Fail> {
+    without_block(without_block(store, 3)?, 0xffff_ffff)
+}
+
 // With power and without.
 #[test]
 fn flat_has_no_block_past_the_last(rt: HostRuntime) -> Result<(), Fail> {
     for grant in [5, 0] {
-        let medium = without_block(flat(rt.alloc(), &[1, 2, 3], grant)?, 3)?;
-        let medium = without_block(medium, 0xffff_ffff)?;
+        let medium = without_the_next(flat(rt.alloc(), &[1, 2, 3], grant)?)?;
         is_left(rt.alloc(), medium, grant, &[1, 2, 3])?;
     }
     Ok(())
