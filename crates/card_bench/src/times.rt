@@ -23,15 +23,23 @@ impl Times {
     pub fn of(rt: &HostRuntime, order: Order) -> anyhow::Result<Times> {
         let mut rng = Pcg32::new(42, 54);
         let memory = full_card(rt.alloc(), &mut rng, order.blocks)?;
-        FlashCard::check(&memory, order.blocks)?;
+        let (mut card, making) = make_card(rt, memory, order.blocks)?;
+        Times::of_calls(rt, &mut card, &mut rng, order, making)
+    }
+
+    // The times of the calls on a card whose making took so long.
+    fn of_calls<S: Store, R: Rng>(
+        rt: &HostRuntime,
+        card: &mut S,
+        rng: &mut R,
+        order: Order,
+        making: Duration,
+    ) -> anyhow::Result<Times> {
         let start = Instant::now(rt)?;
-        let mut card = FlashCard::new(memory, order.blocks, u32::MAX)?;
-        let making = start.elapsed(rt)?;
-        let start = Instant::now(rt)?;
-        put_blocks(&mut card, &mut rng, order)?;
+        put_blocks(card, rng, order)?;
         let puts = start.elapsed(rt)?;
         let start = Instant::now(rt)?;
-        let shown = read_blocks(&mut card, &mut rng, order)?;
+        let shown = read_blocks(card, rng, order)?;
         let reads = start.elapsed(rt)?;
         Ok(Times {
             order,
@@ -41,6 +49,18 @@ impl Times {
             shown,
         })
     }
+}
+
+// A card over the memory, and how long its making took.
+fn make_card(
+    rt: &HostRuntime,
+    memory: Vec<u8>,
+    blocks: u32,
+) -> anyhow::Result<(FlashCard, Duration)> {
+    FlashCard::check(&memory, blocks)?;
+    let start = Instant::now(rt)?;
+    let card = FlashCard::new(memory, blocks, u32::MAX)?;
+    Ok((card, start.elapsed(rt)?))
 }
 
 impl fmt::Display for Times {
@@ -63,7 +83,7 @@ fn average(time: Duration, calls: u32) -> u128 {
     time.checked_div(calls).map_or(0, |one| one.as_nanos())
 }
 
-fn put_blocks<R: Rng>(card: &mut FlashCard, rng: &mut R, order: Order) -> Result<(), StoreError> {
+fn put_blocks<S: Store, R: Rng>(card: &mut S, rng: &mut R, order: Order) -> Result<(), StoreError> {
     for _ in 0..order.puts {
         let block = rng.random_range(0..order.blocks);
         card.put_block(block, &[1; BLOCK_BYTES])?;
@@ -71,7 +91,11 @@ fn put_blocks<R: Rng>(card: &mut FlashCard, rng: &mut R, order: Order) -> Result
     Ok(())
 }
 
-fn read_blocks<R: Rng>(card: &mut FlashCard, rng: &mut R, order: Order) -> Result<u32, StoreError> {
+fn read_blocks<S: Store, R: Rng>(
+    card: &mut S,
+    rng: &mut R,
+    order: Order,
+) -> Result<u32, StoreError> {
     let mut shown = 0;
     for _ in 0..order.reads {
         let block = rng.random_range(0..order.blocks);

@@ -4,26 +4,44 @@
 
 mod report;
 
-use log_pile::{Remains, erased_card, pile_over};
+use log_pile::{Pile, Remains, erased_card, pile_over};
 use logday_options::{Options, USAGE};
 use report::{Held, Recording, print_medium};
 use shift_log::{Shift, record_shift};
-use std::alloc::AllocError;
+use std::alloc::{AllocError, Global};
 use std::env;
 
-// One run: the shift is recorded on an erased card with this grant of block stores.
-fn run(rt: &HostRuntime, shift: Shift, grant: u32) -> anyhow::Result<()> {
-    let card = erased_card(rt.alloc(), grant)?;
-    let mut pile = pile_over(rt.alloc(), card).map_err(AllocError::from)?;
+// The shift recorded on an erased card with this grant of block stores, and what is left of the pile.
+fn record(heap: Global, shift: Shift, grant: u32) -> Result<(Recording, Remains), AllocError> {
+    let mut pile = new_pile(heap, grant)?;
     let outcome = record_shift(&mut pile, shift);
-    let recording = Recording { shift, outcome };
+    Ok((Recording { shift, outcome }, Remains::of(pile)))
+}
+
+fn new_pile(heap: Global, grant: u32) -> Result<Pile, AllocError> {
+    let card = erased_card(heap, grant)?;
+    Ok(pile_over(heap, card)?)
+}
+
+// One run, with this grant of block stores.
+fn run(rt: &HostRuntime, shift: Shift, grant: u32) -> anyhow::Result<()> {
+    let (recording, remains) = record(rt.alloc(), shift, grant)?;
+    print_recording(rt, recording, &remains, grant)?;
+    print_medium(rt, remains.card)
+}
+
+fn print_recording(
+    rt: &HostRuntime,
+    recording: Recording,
+    remains: &Remains,
+    grant: u32,
+) -> anyhow::Result<()> {
     println!(rt; "{recording}")?;
-    let remains = Remains::of(pile);
     let stores = remains.stores(grant);
     println!(rt; "  block stores  {stores}")?;
-    let held = Held(&remains);
+    let held = Held(remains);
     println!(rt; "  held          {held}")?;
-    print_medium(rt, remains.card)
+    Ok(())
 }
 
 fn record_twice(rt: &HostRuntime, options: Options) -> anyhow::Result<()> {

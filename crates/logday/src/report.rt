@@ -84,13 +84,17 @@ impl fmt::Display for Held<'_> {
     }
 }
 
-// What the next power-on would find on the card, block by block. A loop in each program: what is printed of a block
-// differs, and a closure for it would be longer than the loop.
+// What the next power-on would find on the card, block by block.
 pub fn print_medium(rt: &HostRuntime, card: FlashCard) -> anyhow::Result<()> {
     let mut card = reopened(card)?;
     println!(rt; "  on the card")?;
+    print_blocks(rt, &mut card)
+}
+
+// A loop in each program: what is printed of a block differs, and a closure for it would be longer than the loop.
+fn print_blocks<S: Store>(rt: &HostRuntime, store: &mut S) -> anyhow::Result<()> {
     for block in 0..LOG_BLOCKS {
-        let found = Found(Record::from_content(&card.read_block(block)?));
+        let found = Found(Record::from_content(&store.read_block(block)?));
         println!(rt; "    block {block:>2}    {found}")?;
     }
     Ok(())

@@ -33,36 +33,41 @@ impl Task for TimeCases<'_> {
 
     fn run<S: Pile>(self, pile: S) -> anyhow::Result<()> {
         let TimeCases { rt, blocks } = self;
-        let heap = rt.alloc();
         let mut pile = pile;
-        put_all(&mut pile, &shuffled(heap, blocks)?, &[1; BLOCK_BYTES])?;
-        time_puts(rt, "put-random", &mut pile, &random(heap, blocks, 1)?)?;
-        time_puts(rt, "put-rising", &mut pile, &rising(heap, blocks, 1)?)?;
-        time_reads(rt, "read-random", &mut pile, &random(heap, blocks, 1)?)?;
-        time_reads(rt, "read-rising", &mut pile, &rising(heap, blocks, 1)?)?;
+        time_calls(rt, blocks, &mut pile)?;
         let mut module = Module::make(pile);
         // the answer is the unit attention
         let _ = module.command(0, &TEST_UNIT_READY, &[], &mut []);
-        time_writes(rt, "write-1", &mut module, &random(heap, blocks, 1)?, 1)?;
-        time_writes(rt, "write-8", &mut module, &random(heap, blocks, 8)?, 8)?;
-        time_writes(
-            rt,
-            "write-128",
-            &mut module,
-            &rising(heap, blocks, 128)?,
-            128,
-        )?;
-        time_read_commands(rt, "read-1", &mut module, &random(heap, blocks, 1)?, 1)?;
-        time_read_commands(rt, "read-8", &mut module, &random(heap, blocks, 8)?, 8)?;
-        time_read_commands(
-            rt,
-            "read-128",
-            &mut module,
-            &rising(heap, blocks, 128)?,
-            128,
-        )?;
-        time_synchronized(rt, "sync-8", &mut module, &random(heap, blocks, 8)?, 8)
+        time_commands(rt, blocks, &mut module)
     }
+}
+
+fn time_calls<S: Store>(rt: &HostRuntime, blocks: u32, store: &mut S) -> anyhow::Result<()>
+    requires { 1 ≤ blocks }
+{
+    let heap = rt.alloc();
+    put_all(store, &shuffled(heap, blocks)?, &[1; BLOCK_BYTES])?;
+    time_puts(rt, "put-random", store, &random(heap, blocks, 1)?)?;
+    time_puts(rt, "put-rising", store, &rising(heap, blocks, 1)?)?;
+    time_reads(rt, "read-random", store, &random(heap, blocks, 1)?)?;
+    time_reads(rt, "read-rising", store, &rising(heap, blocks, 1)?)
+}
+
+fn time_commands<S: Store>(
+    rt: &HostRuntime,
+    blocks: u32,
+    module: &mut Module<S>,
+) -> anyhow::Result<()>
+    requires { 128 ≤ blocks }
+{
+    let heap = rt.alloc();
+    time_writes(rt, "write-1", module, &random(heap, blocks, 1)?, 1)?;
+    time_writes(rt, "write-8", module, &random(heap, blocks, 8)?, 8)?;
+    time_writes(rt, "write-128", module, &rising(heap, blocks, 128)?, 128)?;
+    time_read_commands(rt, "read-1", module, &random(heap, blocks, 1)?, 1)?;
+    time_read_commands(rt, "read-8", module, &random(heap, blocks, 8)?, 8)?;
+    time_read_commands(rt, "read-128", module, &rising(heap, blocks, 128)?, 128)?;
+    time_synchronized(rt, "sync-8", module, &random(heap, blocks, 8)?, 8)
 }
 
 // A buffer for the bytes of so many blocks.
