@@ -12,7 +12,7 @@ use times::Times;
 fn main(rt: HostRuntime) -> anyhow::Result<()> {
     let mut words = env::args(&rt)?;
     let _program = words.next();
-    match Order::parse(words)? {
+    match Order::parse(&mut words)? {
         Some(order) => {
             let times = Times::of(&rt, order)?;
             println!(rt; "{times}")?;

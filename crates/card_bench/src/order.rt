@@ -20,7 +20,7 @@ pub struct Order {
 
 impl Order {
     // The order from the words after the program's name, or none if there are no words.
-    pub fn parse(mut words: Args) -> anyhow::Result<Option<Order>> {
+    pub fn parse(words: &mut Args) -> anyhow::Result<Option<Order>> {
         let Some(first) = words.next() else {
             return Ok(None);
         };

@@ -36,19 +36,11 @@ impl Recording {
             _ => Ok(()),
         }
     }
-}
 
-impl fmt::Display for Recording {
-    fn fmt<W: fmt::Write>(&self, f: &mut fmt::Formatter<W>) -> fmt::Result {
+    fn write_ending<W: fmt::Write>(&self, f: &mut fmt::Formatter<W>) -> fmt::Result {
         let Outcome { seconds, answer } = self.outcome;
-        let blocks = self.blocks_put();
-        writeln!(f, "  put           {blocks} blocks in {seconds} seconds")?;
-        writeln!(f, "                an encoder block each second")?;
-        write!(f, "                two brake blocks in seconds")?;
-        self.write_brake_actions(f)?;
-        writeln!(f)?;
         match answer {
-            Ok(()) => write!(f, "  ended         with a flush"),
+            Ok(()) => f.write_str("  ended         with a flush"),
             Err(_) if seconds < self.shift.seconds => {
                 let begun = self.shift.blocks_of(seconds);
                 write!(
@@ -56,8 +48,21 @@ impl fmt::Display for Recording {
                     "  ended         power lost in second {seconds}, with up to {begun} blocks put in it"
                 )
             }
-            Err(_) => write!(f, "  ended         power lost in the flush"),
+            Err(_) => f.write_str("  ended         power lost in the flush"),
         }
+    }
+}
+
+impl fmt::Display for Recording {
+    fn fmt<W: fmt::Write>(&self, f: &mut fmt::Formatter<W>) -> fmt::Result {
+        let blocks = self.blocks_put();
+        let seconds = self.outcome.seconds;
+        writeln!(f, "  put           {blocks} blocks in {seconds} seconds")?;
+        f.write_str("                an encoder block each second\n")?;
+        f.write_str("                two brake blocks in seconds")?;
+        self.write_brake_actions(f)?;
+        f.write_str("\n")?;
+        self.write_ending(f)
     }
 }
 

@@ -7,8 +7,54 @@ use rand::seq::SliceRandom;
 use rand_pcg::Pcg32;
 use std::alloc::{AllocError, Global};
 
-// The first blocks of calls, anywhere; the same at each run.
-pub fn random(heap: Global, blocks: u32, length: u16) -> Result<Vec<u32>, AllocError>
+#[derive(Clone, Copy)]
+enum Order {
+    Random,
+    Rising,
+}
+
+// The calls of a pass over a store of so many blocks.
+#[derive(Clone, Copy)]
+pub struct Calls {
+    order: Order,
+    blocks: u32,
+    pub length: u16,
+    ghost fit: { (1 ≤ length) × (length ≤ blocks) },
+}
+
+impl Calls {
+    // Calls anywhere, the same at each run.
+    pub fn random(blocks: u32, length: u16) -> Calls
+        requires { (1 ≤ length) × (length ≤ blocks) }
+    {
+        Calls {
+            order: Order::Random,
+            blocks,
+            length,
+        }
+    }
+
+    // Calls one after the other, and then from block 0 again.
+    pub fn rising(blocks: u32, length: u16) -> Calls
+        requires { (1 ≤ length) × (length ≤ blocks) }
+    {
+        Calls {
+            order: Order::Rising,
+            blocks,
+            length,
+        }
+    }
+
+    // The first block of each call.
+    pub fn starts(self, heap: Global) -> Result<Vec<u32>, AllocError> {
+        match self.order {
+            Order::Random => random(heap, self.blocks, self.length),
+            Order::Rising => rising(heap, self.blocks, self.length),
+        }
+    }
+}
+
+fn random(heap: Global, blocks: u32, length: u16) -> Result<Vec<u32>, AllocError>
     requires { (1 ≤ length) × (length ≤ blocks) }
 {
     let mut rng = Pcg32::new(42, 54);
@@ -19,8 +65,7 @@ pub fn random(heap: Global, blocks: u32, length: u16) -> Result<Vec<u32>, AllocE
     Ok(starts)
 }
 
-// The same, one after the other, and then from block 0 again.
-pub fn rising(heap: Global, blocks: u32, length: u16) -> Result<Vec<u32>, AllocError>
+fn rising(heap: Global, blocks: u32, length: u16) -> Result<Vec<u32>, AllocError>
     requires { (1 ≤ length) × (length ≤ blocks) }
 {
     let step = u32::from(length);

@@ -1,7 +1,7 @@
 // The cases: calls of a store, and then commands to a module over it.
 ghost use Rattle.std.specs.Prelude.{◌≡◌, ◌*◌, ◌≤◌, vec_len, IfOk};
 
-use crate::blocks::{random, rising, shuffled};
+use crate::blocks::{Calls, shuffled};
 use crate::cdbs::{READ, TEST_UNIT_READY, WRITE, cdbs};
 use crate::passes::{command_all, put_all, read_all, synchronize_all};
 use crate::timing::time;
@@ -45,12 +45,11 @@ impl Task for TimeCases<'_> {
 fn time_calls<S: Store>(rt: &HostRuntime, blocks: u32, store: &mut S) -> anyhow::Result<()>
     requires { 1 ≤ blocks }
 {
-    let heap = rt.alloc();
-    put_all(store, &shuffled(heap, blocks)?, &[1; BLOCK_BYTES])?;
-    time_puts(rt, "put-random", store, &random(heap, blocks, 1)?)?;
-    time_puts(rt, "put-rising", store, &rising(heap, blocks, 1)?)?;
-    time_reads(rt, "read-random", store, &random(heap, blocks, 1)?)?;
-    time_reads(rt, "read-rising", store, &rising(heap, blocks, 1)?)
+    put_all(store, &shuffled(rt.alloc(), blocks)?, &[1; BLOCK_BYTES])?;
+    time_puts(rt, "put-random", store, Calls::random(blocks, 1))?;
+    time_puts(rt, "put-rising", store, Calls::rising(blocks, 1))?;
+    time_reads(rt, "read-random", store, Calls::random(blocks, 1))?;
+    time_reads(rt, "read-rising", store, Calls::rising(blocks, 1))
 }
 
 fn time_commands<S: Store>(
@@ -60,14 +59,13 @@ fn time_commands<S: Store>(
 ) -> anyhow::Result<()>
     requires { 128 ≤ blocks }
 {
-    let heap = rt.alloc();
-    time_writes(rt, "write-1", module, &random(heap, blocks, 1)?, 1)?;
-    time_writes(rt, "write-8", module, &random(heap, blocks, 8)?, 8)?;
-    time_writes(rt, "write-128", module, &rising(heap, blocks, 128)?, 128)?;
-    time_read_commands(rt, "read-1", module, &random(heap, blocks, 1)?, 1)?;
-    time_read_commands(rt, "read-8", module, &random(heap, blocks, 8)?, 8)?;
-    time_read_commands(rt, "read-128", module, &rising(heap, blocks, 128)?, 128)?;
-    time_synchronized(rt, "sync-8", module, &random(heap, blocks, 8)?, 8)
+    time_writes(rt, "write-1", module, Calls::random(blocks, 1))?;
+    time_writes(rt, "write-8", module, Calls::random(blocks, 8))?;
+    time_writes(rt, "write-128", module, Calls::rising(blocks, 128))?;
+    time_read_commands(rt, "read-1", module, Calls::random(blocks, 1))?;
+    time_read_commands(rt, "read-8", module, Calls::random(blocks, 8))?;
+    time_read_commands(rt, "read-128", module, Calls::rising(blocks, 128))?;
+    time_synchronized(rt, "sync-8", module, Calls::random(blocks, 8))
 }
 
 // A buffer for the bytes of so many blocks.
@@ -81,22 +79,24 @@ fn time_puts<S: Store>(
     rt: &HostRuntime,
     case: &str,
     store: &mut S,
-    blocks: &[u32],
+    calls: Calls,
 ) -> anyhow::Result<()> {
+    let blocks = calls.starts(rt.alloc())?;
     let data = buffer(rt.alloc(), PUT, 1)?;
     // from memory: what a compiler knows it would not copy
     let content = data.first_chunk().unwrap();
-    time(rt, case, || put_all(store, blocks, content))
+    time(rt, case, || put_all(store, &blocks, content))
 }
 
 fn time_reads<S: Store>(
     rt: &HostRuntime,
     case: &str,
     store: &mut S,
-    blocks: &[u32],
+    calls: Calls,
 ) -> anyhow::Result<()> {
+    let blocks = calls.starts(rt.alloc())?;
     let mut content = [0; BLOCK_BYTES];
-    time(rt, case, || read_all(store, blocks, &mut content))?;
+    time(rt, case, || read_all(store, &blocks, &mut content))?;
     // a compiler could leave out reads whose content nobody looks at
     ensure!(
         content == [PUT; BLOCK_BYTES],
@@ -109,11 +109,10 @@ fn time_writes<S: Store>(
     rt: &HostRuntime,
     case: &str,
     module: &mut Module<S>,
-    starts: &[u32],
-    length: u16,
+    calls: Calls,
 ) -> anyhow::Result<()> {
-    let cdbs = cdbs(rt.alloc(), WRITE, starts, length)?;
-    let data_out = buffer(rt.alloc(), 3, length)?;
+    let cdbs = cdbs(rt.alloc(), WRITE, calls)?;
+    let data_out = buffer(rt.alloc(), 3, calls.length)?;
     time(rt, case, || command_all(module, &cdbs, &data_out, &mut []))
 }
 
@@ -121,11 +120,10 @@ fn time_read_commands<S: Store>(
     rt: &HostRuntime,
     case: &str,
     module: &mut Module<S>,
-    starts: &[u32],
-    length: u16,
+    calls: Calls,
 ) -> anyhow::Result<()> {
-    let cdbs = cdbs(rt.alloc(), READ, starts, length)?;
-    let mut data_in = buffer(rt.alloc(), 0, length)?;
+    let cdbs = cdbs(rt.alloc(), READ, calls)?;
+    let mut data_in = buffer(rt.alloc(), 0, calls.length)?;
     time(rt, case, || command_all(module, &cdbs, &[], &mut data_in))
 }
 
@@ -133,10 +131,9 @@ fn time_synchronized<S: Store>(
     rt: &HostRuntime,
     case: &str,
     module: &mut Module<S>,
-    starts: &[u32],
-    length: u16,
+    calls: Calls,
 ) -> anyhow::Result<()> {
-    let cdbs = cdbs(rt.alloc(), WRITE, starts, length)?;
-    let data_out = buffer(rt.alloc(), 4, length)?;
+    let cdbs = cdbs(rt.alloc(), WRITE, calls)?;
+    let data_out = buffer(rt.alloc(), 4, calls.length)?;
     time(rt, case, || synchronize_all(module, &cdbs, &data_out))
 }

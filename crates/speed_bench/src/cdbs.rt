@@ -1,4 +1,5 @@
 // The CDBs of commands on blocks.
+use crate::blocks::Calls;
 use std::alloc::{AllocError, Global};
 
 pub type Cdb = [u8; 10];
@@ -17,10 +18,11 @@ fn cdb(opcode: u8, start: u32, length: u16) -> Cdb {
     [opcode, 0, a, b, c, d, 0, high, low, 0]
 }
 
-// Those of commands on so many blocks each, from each of the starts on.
-pub fn cdbs(heap: Global, opcode: u8, starts: &[u32], length: u16) -> Result<Vec<Cdb>, AllocError> {
-    starts
+// Those of a pass.
+pub fn cdbs(heap: Global, opcode: u8, calls: Calls) -> Result<Vec<Cdb>, AllocError> {
+    calls
+        .starts(heap)?
         .iter()
-        .map(|&start| cdb(opcode, start, length))
+        .map(|&start| cdb(opcode, start, calls.length))
         .collect(heap)
 }
