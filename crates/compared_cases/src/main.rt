@@ -7,31 +7,45 @@ use outcomes::Outcome;
 use pile_runs::{calls_of, data_in_for, play_with};
 use recorder_options::{Asked, Options, parse};
 use script::parse_script;
-use std::alloc::Global;
+use session::Call;
+use std::alloc::{AllocError, Global};
 use std::io;
 use std::io::{BufWriter, Read, Write};
 
-// What the words behind `case` ask for.
-fn options_of(heap: Global, line: &str) -> anyhow::Result<Options> {
+fn words_of(heap: Global, line: &str) -> Result<Vec<String>, AllocError> {
     let mut words = Vec::new(heap);
     for word in line.split_whitespace() {
         words.push(String::from_str(heap, word)?)?;
     }
-    match parse(heap, &words)? {
+    Ok(words)
+}
+
+// What the words behind `case` ask for.
+fn options_of(heap: Global, line: &str) -> anyhow::Result<Options> {
+    match parse(heap, &words_of(heap, line)?)? {
         Asked::Run(options) => Ok(options),
         Asked::Help => Err(anyhow!("a case has no --help")),
     }
+}
+
+// What the run of a script leaves.
+fn play_script(heap: Global, options: &Options, script: &str) -> anyhow::Result<Outcome> {
+    let lines = parse_script(heap, script.as_bytes())?;
+    let data_in = data_in_for(heap, &lines)?;
+    let calls = calls_of(heap, &lines, &data_in)?;
+    play_calls(heap, options, &calls)
+}
+
+fn play_calls(heap: Global, options: &Options, calls: &[Call<'_>]) -> anyhow::Result<Outcome> {
+    let run = play_with(heap, options, options.grant, calls)?;
+    Ok(Outcome::of(heap, options.grant, calls, run)?)
 }
 
 // A case: its words, and behind them its script.
 fn play_case<W: Write + Drop>(heap: Global, out: &mut W, case: &str) -> anyhow::Result<()> {
     let (words, script) = case.split_once('\n').unwrap_or((case, ""));
     let options = options_of(heap, words)?;
-    let lines = parse_script(heap, script.as_bytes())?;
-    let data_in = data_in_for(heap, &lines)?;
-    let calls = calls_of(heap, &lines, &data_in)?;
-    let run = play_with(heap, &options, options.grant, &calls)?;
-    let outcome = Outcome::of(heap, options.grant, &calls, run)?;
+    let outcome = play_script(heap, &options, script)?;
     write!(out, "case {words}\n{outcome}")?;
     Ok(())
 }
