@@ -29,6 +29,13 @@ impl Options {
         ensures asked { IfOk result (Asked (into_iter_items words)) }
         ensures refused { IfErr result (λ _. (asked : Option Options) → ¬ Asked (into_iter_items words) asked) }
     {
+        Options::take(&mut words)
+    }
+
+    fn take(words: &mut Args) -> anyhow::Result<Option<Options>>
+        ensures asked { IfOk result (Asked (into_iter_items words.old)) }
+        ensures refused { IfErr result (λ _. (asked : Option Options) → ¬ Asked (into_iter_items words.old) asked) }
+    {
         let first = words.next();
         if first.as_ref().is_some_and(|word| word.as_str() == "--help") {
             return Ok(None);
