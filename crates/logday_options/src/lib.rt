@@ -29,10 +29,10 @@ impl Options {
         ensures asked { IfOk result (Asked (into_iter_items words)) }
         ensures refused { IfErr result (λ _. (asked : Option Options) → ¬ Asked (into_iter_items words) asked) }
     {
-        Options::take(&mut words)
+        Options::from_words(&mut words)
     }
 
-    fn take(words: &mut Args) -> anyhow::Result<Option<Options>>
+    fn from_words(words: &mut Args) -> anyhow::Result<Option<Options>>
         ensures asked { IfOk result (Asked (into_iter_items words.old)) }
         ensures refused { IfErr result (λ _. (asked : Option Options) → ¬ Asked (into_iter_items words.old) asked) }
     {

@@ -136,7 +136,12 @@ fn junk(heap: Global, rng: &mut Pcg32, count: usize, bound: u32) -> Result<Vec<P
 }
 
 // After each number of puts.
-fn work_alike(heap: Global, count: u32, before: &[Page], puts: &[u32]) -> Result<(), Fail>
+fn works_alike_after_each(
+    heap: Global,
+    count: u32,
+    before: &[Page],
+    puts: &[u32],
+) -> Result<(), Fail>
     requires { 0 < count }
 {
     for puts in puts {
@@ -154,7 +159,7 @@ fn random_owners(rt: HostRuntime) -> Result<(), Fail> {
     let mut rng = Pcg32::new(1, 1);
     for _ in 0..10 {
         let pages = junk(rt.alloc(), &mut rng, 12, 8)?;
-        work_alike(rt.alloc(), 5, &pages, &PUTS)?;
+        works_alike_after_each(rt.alloc(), 5, &pages, &PUTS)?;
     }
     Ok(())
 }
@@ -164,7 +169,7 @@ fn random_owners(rt: HostRuntime) -> Result<(), Fail> {
 fn many_pages_for_a_block(rt: HostRuntime) -> Result<(), Fail> {
     let mut rng = Pcg32::new(2, 2);
     let pages = junk(rt.alloc(), &mut rng, 30, 3)?;
-    work_alike(rt.alloc(), 3, &pages, &PUTS)
+    works_alike_after_each(rt.alloc(), 3, &pages, &PUTS)
 }
 
 #[test]
@@ -177,9 +182,9 @@ fn owners_at_the_count_and_above(rt: HostRuntime) -> Result<(), Fail> {
         owned(3, 14),
         owned(0xffff_fffe, 15),
     ];
-    work_alike(rt.alloc(), 3, &pages, &PUTS)?;
-    work_alike(rt.alloc(), 4, &pages, &PUTS)?;
-    work_alike(rt.alloc(), 5, &pages, &PUTS)
+    works_alike_after_each(rt.alloc(), 3, &pages, &PUTS)?;
+    works_alike_after_each(rt.alloc(), 4, &pages, &PUTS)?;
+    works_alike_after_each(rt.alloc(), 5, &pages, &PUTS)
 }
 
 #[test]
@@ -187,7 +192,7 @@ fn one_block_on_two_pages(rt: HostRuntime) -> Result<(), Fail> {
     for first in [0, 1, 0xffff_ffff] {
         for second in [0, 1, 0xffff_ffff] {
             let pages = [owned(first, 10), owned(second, 11)];
-            work_alike(rt.alloc(), 1, &pages, &PUTS)?;
+            works_alike_after_each(rt.alloc(), 1, &pages, &PUTS)?;
         }
     }
     Ok(())
@@ -198,7 +203,7 @@ fn one_block_on_two_pages(rt: HostRuntime) -> Result<(), Fail> {
 fn more_pages_than_a_group(rt: HostRuntime) -> Result<(), Fail> {
     let mut rng = Pcg32::new(3, 3);
     let pages = junk(rt.alloc(), &mut rng, 600, 599)?;
-    work_alike(rt.alloc(), 599, &pages, &[1, 20, 60])
+    works_alike_after_each(rt.alloc(), 599, &pages, &[1, 20, 60])
 }
 
 // So many blocks, each on the page of its number, and behind them the one page that is free.
@@ -215,5 +220,5 @@ fn full(heap: Global, count: u32) -> Result<Vec<Page>, Fail> {
 #[test]
 fn one_free_page_in_a_large_card(rt: HostRuntime) -> Result<(), Fail> {
     let pages = full(rt.alloc(), 4199)?;
-    work_alike(rt.alloc(), 4199, &pages, &[1, 2, 5])
+    works_alike_after_each(rt.alloc(), 4199, &pages, &[1, 2, 5])
 }

@@ -12,7 +12,8 @@ use store::{Store, StoreError};
 
 // The check of this memory and count has the answer of this number.
 fn check_answers<L: Layout>(memory: &[u8], count: u32, number: u8) -> Result<(), Fail> {
-    same(check_number(BlockMedium::<L>::check(memory, count)), number)
+    let found = check_number(BlockMedium::<L>::check(memory, count));
+    same((memory.len(), count, found), (memory.len(), count, number))
 }
 
 #[test]
