@@ -1,7 +1,9 @@
 // START STOP UNIT in every state of the medium and its power condition.
+use super::checks::same_at;
 use commands::{PowerCondition, StartStop};
 use logical_unit::{Condition, LogicalUnit, Settings};
 use sense::Attention;
+use std::test::Fail;
 
 const CONDITIONS: [Condition; 5] = [
     Condition::Active,
@@ -37,8 +39,21 @@ fn after(before: LogicalUnit, code: u8, start: bool, load_eject: bool) -> Logica
 }
 
 // Start and LoEj do not count, and the medium is as it was.
+fn takes(code: u8, condition: Condition, loaded: bool) -> Result<(), Fail> {
+    let wanted = unit(loaded, condition);
+    for before in CONDITIONS {
+        for start in BOTH {
+            for load_eject in BOTH {
+                let found = after(unit(loaded, before), code, start, load_eject);
+                same_at((code, before), found, wanted)?;
+            }
+        }
+    }
+    Ok(())
+}
+
 #[test]
-fn a_power_condition_is_taken(rt: HostRuntime) {
+fn a_power_condition_is_taken() -> Result<(), Fail> {
     for (code, condition) in [
         (1, Condition::Active),
         (2, Condition::Idle),
@@ -47,40 +62,33 @@ fn a_power_condition_is_taken(rt: HostRuntime) {
         (7, Condition::Active),
     ] {
         for loaded in BOTH {
-            for before in CONDITIONS {
-                for start in BOTH {
-                    for load_eject in BOTH {
-                        let found = after(unit(loaded, before), code, start, load_eject);
-                        assert_eq!(rt; found, unit(loaded, condition), "{code} after {before:?}");
-                    }
-                }
-            }
+            takes(code, condition, loaded)?;
         }
     }
+    Ok(())
 }
 
-// Power condition 0: each row has Start and LoEj, whether the medium was loaded, and what becomes of it.
-#[test]
-fn start_and_loej_stop_unload_start_and_load(rt: HostRuntime) {
-    let told = [None; 4];
-    let changed = [Some(Attention::MediumChanged); 4];
-    for (start, load_eject, was_loaded, condition, loaded, attentions) in [
-        (false, false, false, Condition::Stopped, false, told),
-        (false, false, true, Condition::Stopped, true, told),
-        (false, true, false, Condition::Stopped, false, told),
-        (false, true, true, Condition::Stopped, false, told),
-        (true, false, false, Condition::Active, false, told),
-        (true, false, true, Condition::Active, true, told),
-        (true, true, false, Condition::Active, true, changed),
-        (true, true, true, Condition::Active, true, told),
-    ] {
-        for before in CONDITIONS {
-            let found = after(unit(was_loaded, before), 0, start, load_eject);
-            let wanted = LogicalUnit {
-                attentions,
-                ..unit(loaded, condition)
-            };
-            assert_eq!(rt; found, wanted, "{start} {load_eject} after {before:?}");
-        }
+// Power condition 0 makes this unit from one with its medium loaded or not.
+fn makes(start: bool, load_eject: bool, was_loaded: bool, wanted: LogicalUnit) -> Result<(), Fail> {
+    for before in CONDITIONS {
+        let found = after(unit(was_loaded, before), 0, start, load_eject);
+        same_at((start, load_eject, before), found, wanted)?;
     }
+    Ok(())
+}
+
+#[test]
+fn start_and_loej_stop_unload_start_and_load() -> Result<(), Fail> {
+    let loaded_anew = LogicalUnit {
+        attentions: [Some(Attention::MediumChanged); 4],
+        ..unit(true, Condition::Active)
+    };
+    makes(false, false, false, unit(false, Condition::Stopped))?;
+    makes(false, false, true, unit(true, Condition::Stopped))?;
+    makes(false, true, false, unit(false, Condition::Stopped))?;
+    makes(false, true, true, unit(false, Condition::Stopped))?;
+    makes(true, false, false, unit(false, Condition::Active))?;
+    makes(true, false, true, unit(true, Condition::Active))?;
+    makes(true, true, false, loaded_anew)?;
+    makes(true, true, true, unit(true, Condition::Active))
 }

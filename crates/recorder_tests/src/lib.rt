@@ -9,10 +9,14 @@ mod books;
 #[cfg(test)]
 mod card_runs;
 #[cfg(test)]
+mod checks;
+#[cfg(test)]
 mod command_lines;
 #[cfg(test)]
 mod conditions;
 #[cfg(test)]
 mod new_piles;
+#[cfg(test)]
+mod options;
 #[cfg(test)]
 mod scripts;

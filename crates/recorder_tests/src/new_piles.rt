@@ -1,4 +1,5 @@
 // New cards, and the text of each error.
+use super::checks::{fails, same, says};
 use flash_card::FlashCard;
 use piles::{Bottom, MediumError, MediumKind, Pile, PileError, Task, new_medium, with_pile};
 use recorder_options::CacheKind;
@@ -18,10 +19,18 @@ fn new_card(heap: Global, grant: u32) -> Result<FlashCard, Fail> {
 #[test]
 fn a_new_card_is_of_ffh_bytes(rt: HostRuntime) -> Result<(), Fail> {
     let card = new_card(rt.alloc(), 1)?;
-    assert_eq!(rt; card.count(), 3);
-    assert_eq!(rt; card.grant(), 1);
-    assert_eq!(rt; card.into_memory(), vec![in rt.alloc(); 0xff; 2580]?);
-    Ok(())
+    same(card.count(), 3)?;
+    same(card.grant(), 1)?;
+    same(card.into_memory(), vec![in rt.alloc(); 0xff; 2580]?)
+}
+
+// Block 2, filled with 7, on the first of five pages.
+fn memory_after_put(heap: Global) -> Result<Vec<u8>, AllocError> {
+    let mut memory = Vec::new(heap);
+    memory.extend_from_slice(&[0, 0, 0, 2])?;
+    memory.extend_from_slice(&[7; 512])?;
+    memory.resize(2580, 0xff)?;
+    Ok(memory)
 }
 
 // The hand of a new card stands at page 0.
@@ -29,34 +38,21 @@ fn a_new_card_is_of_ffh_bytes(rt: HostRuntime) -> Result<(), Fail> {
 fn the_first_put_to_a_new_card_takes_page_0(rt: HostRuntime) -> Result<(), Fail> {
     let mut card = new_card(rt.alloc(), 2)?;
     card.put_block(2, &[7; 512])?;
-    let mut memory = vec![in rt.alloc(); 0xff; 2580]?;
-    memory[..4].copy_from_slice(&[0, 0, 0, 2]);
-    memory[4..516].fill(7);
-    assert_eq!(rt; card.into_memory(), memory);
-    Ok(())
+    same(card.into_memory(), memory_after_put(rt.alloc())?)
 }
 
 #[test]
 fn errors_say_why_no_medium_is_made(rt: HostRuntime) -> Result<(), Fail> {
-    for (kind, blocks, text) in [
-        (MediumKind::Flat, 0, "a medium has 1 to 16777216 blocks"),
-        (
-            MediumKind::Card { pages: 3 },
-            3,
-            "the memory is too small for the medium",
-        ),
-    ] {
-        let Err(error) = new_medium(rt.alloc(), kind, blocks, 1) else {
-            return Err("an error is expected".into());
-        };
-        assert_eq!(rt; error.to_string(rt.alloc())?.as_str(), text);
-    }
-    let error = MediumError::from(AllocError);
-    assert_eq!(rt;
-        error.to_string(rt.alloc())?.as_str(),
-        "no memory for the medium"
-    );
-    Ok(())
+    let heap = rt.alloc();
+    let flat = new_medium(heap, MediumKind::Flat, 0, 1);
+    fails(heap, flat, "a medium has 1 to 16777216 blocks")?;
+    let card = new_medium(heap, MediumKind::Card { pages: 3 }, 3, 1);
+    fails(heap, card, "the memory is too small for the medium")?;
+    says(
+        heap,
+        &MediumError::from(AllocError),
+        "no memory for the medium",
+    )
 }
 
 // Asks for the count, and lets the pile go.
@@ -73,23 +69,21 @@ impl Task for Count {
     }
 }
 
+// The count of a pile of these caches over a new card.
+fn counted(heap: Global, caches: &[CacheKind]) -> Result<Result<u32, PileError>, Fail> {
+    let medium = Bottom::Card(new_card(heap, 1)?);
+    Ok(with_pile(heap, medium, caches, Count))
+}
+
 #[test]
 fn errors_say_why_no_pile_is_made(rt: HostRuntime) -> Result<(), Fail> {
+    let heap = rt.alloc();
     let caches = [CacheKind::Table; 4];
-    let medium = Bottom::Card(new_card(rt.alloc(), 1)?);
-    assert_eq!(rt; with_pile(rt.alloc(), medium, &caches[..3], Count)?, 3);
-    let medium = Bottom::Card(new_card(rt.alloc(), 1)?);
-    let Err(error) = with_pile(rt.alloc(), medium, &caches, Count) else {
-        return Err("an error is expected".into());
-    };
-    assert_eq!(rt;
-        error.to_string(rt.alloc())?.as_str(),
-        "a pile has at most three caches"
-    );
-    let error = PileError::from(AllocError);
-    assert_eq!(rt;
-        error.to_string(rt.alloc())?.as_str(),
-        "no memory for a cache"
-    );
-    Ok(())
+    same(counted(heap, &caches[..3])??, 3)?;
+    fails(
+        heap,
+        counted(heap, &caches)?,
+        "a pile has at most three caches",
+    )?;
+    says(heap, &PileError::from(AllocError), "no memory for a cache")
 }
