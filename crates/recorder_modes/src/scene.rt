@@ -1,23 +1,16 @@
 // A scene of the brake log, played without words on the command line: a flash card under a queue cache under a table
 // cache, to a power cut in the middle of a WRITE.
+use crate::playing::run_lines;
 use outcomes::{Outcome, ReplyLine};
-use pile_runs::{calls_of, data_in_for, play_with};
 use recorder_options::{Asked, parse};
 use script::{Line, parse_script};
-use std::alloc::{AllocError, Global};
+use session::Reply;
+use std::alloc::Global;
 use std::io;
 use std::io::{BufWriter, Write};
 
 // The pile. With the last of the grant goes the first of the two blocks of the last brake action.
-const PILE: [&str; 7] = [
-    "card+queue+table",
-    "--blocks",
-    "12",
-    "--pages",
-    "16",
-    "--grant",
-    "13",
-];
+const PILE: &str = "card+queue+table --blocks 12 --pages 16 --grant 13";
 
 const SCRIPT: &str =
     "# A service plug looks at the module: INQUIRY, TEST UNIT READY, READ CAPACITY, MODE SENSE.
@@ -48,6 +41,16 @@ command 0 28000000000a00000100
 // so much of a reply is shown
 const SHOWN: usize = 76;
 
+// The reply, or the front of a long one.
+fn print_reply<W: Write + Drop>(heap: Global, out: &mut W, reply: &Reply) -> anyhow::Result<()> {
+    let told = format!(in heap; "{}", ReplyLine::of(reply))?;
+    match told.as_str().get(..SHOWN) {
+        Some(front) => writeln!(out, "  {front} ..")?,
+        None => writeln!(out, "  {told}")?,
+    }
+    Ok(())
+}
+
 // The lines of the script, each call with its reply.
 fn print_scene<W: Write + Drop>(
     heap: Global,
@@ -62,35 +65,28 @@ fn print_scene<W: Write + Drop>(
             continue;
         }
         if let Some(reply) = replies.next() {
-            let told = format!(in heap; "{}", ReplyLine::of(reply))?;
-            match told.as_str().get(..SHOWN) {
-                Some(front) => writeln!(out, "  {front} ..")?,
-                None => writeln!(out, "  {told}")?,
-            }
+            print_reply(heap, out, reply)?;
         }
     }
     write!(out, "{}", outcome.closing())?;
     Ok(())
 }
 
-fn pile_words(heap: Global) -> Result<Vec<String>, AllocError> {
+fn pile_asked(heap: Global) -> anyhow::Result<Asked> {
     let mut words = Vec::new(heap);
-    for word in PILE {
+    for word in PILE.split_whitespace() {
         words.push(String::from_str(heap, word)?)?;
     }
-    Ok(words)
+    Ok(parse(heap, &words)?)
 }
 
 pub fn play_scene(rt: &HostRuntime) -> anyhow::Result<()> {
     let heap = rt.alloc();
-    let Asked::Run(options) = parse(heap, &pile_words(heap)?)? else {
+    let Asked::Run(options) = pile_asked(heap)? else {
         return Ok(());
     };
     let lines = parse_script(heap, SCRIPT.as_bytes())?;
-    let data_in = data_in_for(heap, &lines)?;
-    let calls = calls_of(heap, &lines, &data_in)?;
-    let run = play_with(heap, &options, options.grant, &calls)?;
-    let outcome = Outcome::of(heap, options.grant, &calls, run)?;
+    let outcome = run_lines(heap, &options, &lines)?;
     let mut out = BufWriter::new(heap, io::writer(rt))?;
     print_scene(heap, &mut out, &lines, &outcome)?;
     Ok(out.flush()?)

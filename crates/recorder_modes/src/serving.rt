@@ -5,8 +5,8 @@ use piles::{Parts, Pile, Task, new_medium, with_pile};
 use rbc::Module;
 use recorder_options::Options;
 use script::{Line, parse_line};
-use session::{Reply, reply_to};
-use std::alloc::Global;
+use session::{Call, Reply, reply_to};
+use std::alloc::{AllocError, Global};
 use std::io::{BufRead, BufReader};
 use std::slice;
 
@@ -15,6 +15,21 @@ use std::slice;
 struct Served {
     lines: Vec<Line>,
     replies: Vec<Reply>,
+}
+
+// What is told at the end, with this grant of block stores.
+fn print_closing(rt: &HostRuntime, grant: u32, served: Served, left: Parts) -> anyhow::Result<()> {
+    let Served { lines, replies } = served;
+    let Parts { pending, bottom } = left;
+    let run = Run {
+        replies,
+        pending,
+        bottom,
+    };
+    let data_in = data_in_for(rt.alloc(), &lines)?;
+    let calls = calls_of(rt.alloc(), &lines, &data_in)?;
+    let outcome = Outcome::of(rt.alloc(), grant, &calls, run)?;
+    Ok(print!(rt; "{}", outcome.closing())?)
 }
 
 #[derive(Drop)]
@@ -32,18 +47,20 @@ impl Task for Serve<'_> {
     fn run<S: Pile>(self, pile: S) -> anyhow::Result<()> {
         let Serve { rt, options } = self;
         let mut module = Module::make(pile);
-        let Served { lines, replies } = serve_lines(rt, &mut module)?;
-        let Parts { pending, bottom } = module.into_store().into_parts();
-        let run = Run {
-            replies,
-            pending,
-            bottom,
-        };
-        let data_in = data_in_for(rt.alloc(), &lines)?;
-        let calls = calls_of(rt.alloc(), &lines, &data_in)?;
-        let outcome = Outcome::of(rt.alloc(), options.grant, &calls, run)?;
-        print!(rt; "{}", outcome.closing())?;
-        Ok(())
+        let served = serve_lines(rt, &mut module)?;
+        print_closing(rt, options.grant, served, module.into_store().into_parts())
+    }
+}
+
+// The first of the calls, done; none if there are none.
+fn first_reply<S: Pile>(
+    heap: Global,
+    module: &mut Module<S>,
+    calls: &[Call<'_>],
+) -> Result<Option<Reply>, AllocError> {
+    match calls.first() {
+        Some(call) => Ok(Some(reply_to(heap, module, call)?)),
+        None => Ok(None),
     }
 }
 
@@ -52,14 +69,26 @@ fn reply_to_line<S: Pile>(
     heap: Global,
     module: &mut Module<S>,
     line: &Line,
-) -> anyhow::Result<Option<Reply>> {
+) -> Result<Option<Reply>, AllocError> {
     let line = slice::from_ref(line);
     let data_in = data_in_for(heap, line)?;
     let calls = calls_of(heap, line, &data_in)?;
-    match calls.first() {
-        Some(call) => Ok(Some(reply_to(heap, module, call)?)),
-        None => Ok(None),
+    first_reply(heap, module, &calls)
+}
+
+// Answers a line, and keeps it with its reply; a line that is skipped has none.
+fn serve_line<S: Pile>(
+    rt: &HostRuntime,
+    module: &mut Module<S>,
+    line: Line,
+    served: &mut Served,
+) -> anyhow::Result<()> {
+    if let Some(reply) = reply_to_line(rt.alloc(), module, &line)? {
+        println!(rt; "{}", ReplyLine::of(&reply))?;
+        served.lines.push(line)?;
+        served.replies.push(reply)?;
     }
+    Ok(())
 }
 
 // Answers line after line, until there are no more.
@@ -76,15 +105,10 @@ fn serve_lines<S: Pile>(rt: &HostRuntime, module: &mut Module<S>) -> anyhow::Res
         if input.read_until(b'\n', &mut text)? == 0 {
             break;
         }
-        match parse_line(heap, text.strip_suffix(b"\n".as_slice()).unwrap_or(&text)) {
+        let line = text.strip_suffix(b"\n".as_slice()).unwrap_or(&text);
+        match parse_line(heap, line) {
             Err(error) => println!(rt; "error line {number}: {error}")?,
-            Ok(line) => {
-                if let Some(reply) = reply_to_line(heap, module, &line)? {
-                    println!(rt; "{}", ReplyLine::of(&reply))?;
-                    served.lines.push(line)?;
-                    served.replies.push(reply)?;
-                }
-            }
+            Ok(line) => serve_line(rt, module, line, &mut served)?,
         }
     }
     Ok(served)
