@@ -21,12 +21,10 @@ struct Cut {
 
 // The number found at the block.
 fn number_at(found: &[FoundBlock], block: u32) -> usize {
-    for found in found {
-        if found.block == block {
-            return found.numbers.found;
-        }
+    match found.iter().find(|found| found.block == block) {
+        Some(found) => found.numbers.found,
+        None => 0,
     }
-    0
 }
 
 impl Cut {
