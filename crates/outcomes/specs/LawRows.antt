@@ -22,9 +22,9 @@ law_rows steps meaning m calls = rows_at (first_rows (meaning (made_over steps m
 
 -- Whichever options the run was made with, each written block is told by its row of the law. Number 0 of a row is what
 -- stood there when MAKE ended; the contents that were written follow it, from number 1 on.
-abbrev pub NumberedByLaw : ℕ → List Call → Run → Outcome → Type 0
-NumberedByLaw grant calls r o =
-    (options : Options) (w : RunWith options grant calls r)
-    → let p = under_caches (vec_items options.caches) (bottom w.0) in
-    map found_view (vec_items o.blocks)
-    ≡ found_below (λ b. ((bottom_meaning r.bottom).line b).first) (λ b. drop 1 (law_rows p.steps p.meaning p.state calls b)) (counted r.bottom)
+pub record NumberedByLaw (grant : ℕ) (calls : List Call) (r : Run) (o : Outcome) : Type 0 where
+  pub numbered :
+      (options : Options) (w : RunWith options grant calls r)
+      → let p = under_caches (vec_items options.caches) (bottom w.0) in
+      map found_view (vec_items o.blocks)
+      ≡ found_below (λ b. ((bottom_meaning r.bottom).line b).first) (λ b. drop 1 (law_rows p.steps p.meaning p.state calls b)) (counted r.bottom)

@@ -30,7 +30,7 @@ played s cs p = fold (play_next s) p cs
 
 pub played_more :
     {M : Type 0} (s : Steps M) (calls : List Given) (start : Progress M) (i : ℕ) {xs ys : List Told} {w w' : ModuleModel M} {t : Told} → i < length calls
-    → progress xs w ≡ played s (take i calls) start → Heard t w' (called s w (call_of (get_or calls i given.Reset)))
+    → progress xs w ≡ played s (take i calls) start → Heard s w (call_of (get_or calls i given.Reset)) t w'
     → ys ≡ xs ++ (t ∷ []) → progress ys w' ≡ played s (take (i + 1) calls) start
 played_more s calls start i {xs} h p e q =
     ap₂ progress (q ∙ ap (λ (t : Told). xs ++ (t ∷ [])) e.reply) e.left

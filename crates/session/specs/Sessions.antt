@@ -3,7 +3,7 @@ use Rattle.std.specs.Prelude.{◌≡◌, ℕ, List, [], ◌∷◌, map, length, 
 use Rattle.store.specs.Steps.{Steps}
 use Rattle.store.specs.Meaning.{Meaning}
 use Rattle.sense.specs.Report.{Answer, report}
-use Rattle.rbc_steps.specs.Module.{ModuleModel, Exchange, Reply, made_over}
+use Rattle.rbc_steps.specs.Module.{ModuleModel, made_over}
 use Rattle.rbc_steps.specs.Calls.{Call, Command, Reset, Event, called}
 use Rattle.run_law.specs.Runs.{run, meaning_at}
 use Rattle.run_law.specs.Law.{Safe}
@@ -30,10 +30,10 @@ told_by r = record { answer = r.answer; bytes = vec_items r.«data» }
 abbrev pub told_of : Event → Told
 told_of e = told e.answer e.data_in
 
--- one reply, and the module that the call left
-pub record Heard {M : Type 0} (t : Told) (w : ModuleModel M) (r : Reply (Exchange M)) : Type 0 where
-  pub reply : t ≡ told r.answer r.after.data_in
-  pub left : w ≡ r.after.target
+-- The call c on the module w: the reply t, and the module that it leaves.
+pub record Heard {M : Type 0} (steps : Steps M) (w : ModuleModel M) (c : Call) (t : Told) (after : ModuleModel M) : Type 0 where
+  pub reply : t ≡ told (called steps w c).answer (called steps w c).after.data_in
+  pub left : after ≡ (called steps w c).after.target
 
 -- the module that a list of calls leaves
 abbrev pub left_by : {M : Type 0} → Steps M → ModuleModel M → List Call → ModuleModel M

@@ -3,7 +3,6 @@
 
 ghost use Rattle.std.specs.Prelude.{◌≡◌, map, IfOk};
 ghost use Rattle.rbc.specs.Modeled.{modeled};
-ghost use Rattle.rbc_steps.specs.Calls.{called};
 ghost use Rattle.session.specs.Sessions.{call_of, Heard, told_by, Played};
 
 use host_data::front;
@@ -44,7 +43,7 @@ pub fn reply_to<S: Store>(
     module: &mut Module<S>,
     call: &Call<'_>,
 ) -> Result<Reply, AllocError>
-    ensures { IfOk result (λ v. Heard (told_by v) (modeled S.Store.model «module».new) (called S.Store.steps (modeled S.Store.model «module».old) (call_of call.now))) }
+    ensures { IfOk result (λ reply. Heard S.Store.steps (modeled S.Store.model «module».old) (call_of call.now) (told_by reply) (modeled S.Store.model «module».new)) }
 {
     match call {
         Call::Command {

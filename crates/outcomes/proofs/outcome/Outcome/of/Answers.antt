@@ -23,10 +23,12 @@ returns c =
     (λ b h. c.in_ok-book.ensures.1 b (omega (arith, h, c.count.ensures)) ∙ ap (λ (replies : List Reply). rows replies b) c.deref.ensures.value) in
     record {
       outcome = record { replies = search rules; totals = search rules; blocks = blocks };
-      numbers =
-          λ options w.
-          let p = under_caches (vec_items options.caches) (bottom w.0) in
-          blocks
-          ∙ alike (rows (vec_items run.replies)) (λ b. drop 1 (law_rows p.steps p.meaning p.state calls b)) (counted run.bottom)
-          (λ b h. rows_by_law options c.args.grant calls run w b);
+      numbers = record {
+        numbered =
+            λ options w.
+            let p = under_caches (vec_items options.caches) (bottom w.0) in
+            blocks
+            ∙ alike (rows (vec_items run.replies)) (λ b. drop 1 (law_rows p.steps p.meaning p.state calls b)) (counted run.bottom)
+            (λ b h. rows_by_law options c.args.grant calls run w b);
+      };
     }
