@@ -3,6 +3,8 @@
 
 mod data;
 mod device;
+mod pile;
 
 pub use data::{inquire, report_capacity, sense_mode};
 pub use device::Device;
+pub use pile::{mode_select, start_stop, write};

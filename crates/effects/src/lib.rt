@@ -6,16 +6,16 @@ ghost use Rattle.store.specs.Steps.{stepped};
 ghost use Rattle.commands.specs.Carried.{order};
 ghost use Rattle.logical_unit.specs.Hosts.{host_number};
 ghost use Rattle.ladder.specs.Ladder.{Runs};
-ghost use Rattle.rbc_steps.specs.Module.{exchange, run};
+ghost use Rattle.rbc_steps.specs.Module.{exchange, joined, run};
 ghost use Rattle.actions.specs.Modeled.{device_model};
 
-use actions::{Device, inquire, report_capacity, sense_mode};
+use actions::{Device, inquire, mode_select, report_capacity, sense_mode, start_stop, write};
 use commands::{Command, Removal};
-use logical_unit::Host;
+use logical_unit::{Host, LogicalUnit};
 use store::{Store, StoreError};
 use transfer::{read_blocks, verify_blocks};
 
-// A command that has passed the ladder; the count of bytes that it returns.
+// A command that has passed the ladder, on a device; the count of bytes that it returns.
 pub fn run<S: Store>(
     device: &mut Device<S>,
     host: Host,
@@ -25,19 +25,33 @@ pub fn run<S: Store>(
     requires { Runs (S.Store.steps.count (S.Store.model device.old.store)) (length data_in.old) (order command) }
     ensures { stepped result (exchange (device_model S.Store.model device.new) data_in.new) ≡ run S.Store.steps (host_number host) (order command.entry) (exchange (device_model S.Store.model device.old) data_in.old) }
 {
+    run_on(&mut device.store, &mut device.unit, host, command, data_in)
+}
+
+// The same on a store and a logical unit that are lent.
+pub fn run_on<S: Store>(
+    store: &mut S,
+    unit: &mut LogicalUnit,
+    host: Host,
+    command: Command<'_>,
+    data_in: &mut [u8],
+) -> Result<u32, StoreError>
+    requires { Runs (S.Store.steps.count (S.Store.model store.old)) (length data_in.old) (order command) }
+    ensures { stepped result (exchange (joined (S.Store.model store.new) unit.new) data_in.new) ≡ run S.Store.steps (host_number host) (order command.entry) (exchange (joined (S.Store.model store.old) unit.old) data_in.old) }
+{
     match command {
         Command::TestUnitReady => Ok(0),
         Command::Inquiry { allocation, .. } => Ok(inquire(data_in, allocation)),
         Command::ModeSelect { list, .. } => {
-            device.mode_select(host, list)?;
+            mode_select(store, unit, host, list)?;
             Ok(0)
         }
         Command::Reserve => {
-            device.unit.reserve(host.number());
+            unit.reserve(host.number());
             Ok(0)
         }
         Command::Release => {
-            device.unit.release(host.number());
+            unit.release(host.number());
             Ok(0)
         }
         Command::ModeSense {
@@ -45,20 +59,20 @@ pub fn run<S: Store>(
             allocation,
             ..
         } => {
-            let settings = device.unit.shown_settings(control);
-            Ok(sense_mode(data_in, settings, device.store.count(), allocation))
+            let settings = unit.shown_settings(control);
+            Ok(sense_mode(data_in, settings, store.count(), allocation))
         }
         Command::PreventAllow { removal } => {
-            device.unit.set_bar(host, removal == Removal::Prevented);
+            unit.set_bar(host, removal == Removal::Prevented);
             Ok(0)
         }
         Command::StartStopUnit { request } => {
-            device.start_stop(request)?;
+            start_stop(store, unit, request)?;
             Ok(0)
         }
-        Command::ReadCapacity => Ok(report_capacity(data_in, device.store.count())),
+        Command::ReadCapacity => Ok(report_capacity(data_in, store.count())),
         Command::Read { extent, .. } => {
-            read_blocks(&mut device.store, extent, data_in)?;
+            read_blocks(store, extent, data_in)?;
             Ok(extent.byte_count() as u32)
         }
         Command::Write {
@@ -67,15 +81,15 @@ pub fn run<S: Store>(
             data,
             ..
         } => {
-            device.write(force, extent, data)?;
+            write(store, unit, force, extent, data)?;
             Ok(0)
         }
         Command::Verify { extent, .. } => {
-            verify_blocks(&mut device.store, extent)?;
+            verify_blocks(store, extent)?;
             Ok(0)
         }
         Command::SynchronizeCache => {
-            device.store.flush()?;
+            store.flush()?;
             Ok(0)
         }
     }

@@ -23,5 +23,6 @@ pub fn array_at<const N: usize>(memory: &[u8], at: usize) -> [u8; N]
     requires { at + N ≤ length memory.now }
     ensures { result ≡ part memory.now at N }
 {
-    *memory[at..].first_chunk().unwrap()
+    // a slice of N bytes, so that a compiler sees that it has them
+    *memory[at..at + N].first_chunk().unwrap()
 }

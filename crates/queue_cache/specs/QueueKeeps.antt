@@ -6,11 +6,13 @@ use Rattle.std.proofs.Common.{ap, arith}
 use Rattle.std.proofs.Math.ListN.{length-append}
 use Rattle.std.proofs.lemmas.Bool.{cond_both, lt-ltb, ltb-true, ltb-false, true≢false}
 use Rattle.store.specs.Steps.{Content, Steps, Stepped, stepped, next}
-use Rattle.store.specs.Meaning.{Meaning, last_of}
-use Rattle.store.specs.Keeps.{Keeps}
-use Rattle.store.proofs.Moving.{next_ok}
+use Rattle.store.specs.Meaning.{Meaning, last_of, added}
+use Rattle.store.specs.Keeps.{Keeps, Moves}
+use Rattle.store.proofs.Answers.{good_answer}
+use Rattle.store.proofs.Moving.{moves_next, next_keeps, next_ok}
 use Rattle.cache.specs.declared.Entry.{Entry}
-use Rattle.cache.specs.Entries.{waiting}
+use Rattle.cache.specs.Entries.{waiting, over}
+use Rattle.cache.specs.WriteBack.{raised}
 use Rattle.cache.specs.Kinds.{BlocksWithin}
 use Rattle.cache.specs.Preserves.{Preserves}
 use Rattle.queue_cache.specs.Queue.{QueueModel, QueueFits, QueueGood, queued, latest, holds, any, evict_oldest, drain, drained, queue_put, queue_kind, queue_steps, queue_meaning}
@@ -58,10 +60,10 @@ left_behind e es ok =
       within = λ count w. every_tail (λ e. ltb e.block count) e es w;
     }
 
-came_in : (es : List Entry) (e : Entry) → QueueFits es → length es < 16 → length e.content ≡ 512 → CameIn queue_kind es e (es ++ (e ∷ []))
-came_in es e ok l z =
+came_in : (es : List Entry) (e : Entry) → QueueFits es → length es < 16 → CameIn queue_kind es e (es ++ (e ∷ []))
+came_in es e ok l =
     record {
-      fits = record { few = let a = length-append es (e ∷ []) in omega arith; sized = every_push fits es e ok.sized (fits_from e z) };
+      fits = λ z. record { few = let a = length-append es (e ∷ []) in omega arith; sized = every_push fits es e ok.sized (fits_from e z) };
       kept = waiting es;
       struck = struck_none (waiting es) e.block;
       joined = joined es e;
@@ -119,18 +121,73 @@ module _ {B : Type 0} (steps : Steps B) (meaning : B → Meaning) (good : B → 
         ends true e ih ok = next_ok (λ u. wanted u.held ≡ false) c go (λ _. ih) ok
         ends false e ih ok = e
 
+    -- a drained queue, and then a call on the store below
+    drained_good :
+        (q : QueueModel B) (go : QueueModel B → Stepped (Unit {0}) B) → QueueGood good q
+        → ((u : QueueModel B) → QueueGood good u → good (go u).after)
+        → QueueGood good (next (drained steps wanted q) (λ _ u. raised (queued u.held) (go u))).after
+    drained_good q go ok h =
+        let d = drained steps wanted q in
+        let k = drain_good q.held q.below ok in
+        next_keeps (QueueGood good) d (λ _ u. raised (queued u.held) (go u)) k (λ _. record { below = h d.after k; held = k.held })
+
+    drained_moves :
+        (q : QueueModel B) (go : QueueModel B → Stepped (Unit {0}) B) (clean : ℕ → Type 0) → QueueGood good q → 0 < (meaning q.below).grant → wanted [] ≡ false
+        → ((u : QueueModel B) → QueueGood good u → (meaning u.below).count ≡ (meaning q.below).count → 0 < (meaning u.below).grant → wanted u.held ≡ false
+        → let m = queue_meaning meaning u in
+        Moves m m.line 0 clean (go u).answer (over (meaning (go u).after) (waiting u.held)))
+        → let c = next (drained steps wanted q) (λ _ u. raised (queued u.held) (go u)) in let m = queue_meaning meaning q in
+        Moves m m.line 0 clean c.answer (queue_meaning meaning c.after)
+    drained_moves q go clean ok g none h =
+        let m = queue_meaning meaning q in
+        let d = drained steps wanted q in
+        let p = (drains q.held q.below ok).moves g in
+        moves_next (queue_meaning meaning) m m.line (queue_meaning meaning d.after).line 0 clean d (λ _ u. raised (queued u.held) (go u))
+        p (λ k s. s) (λ k l s. s)
+        (λ g'. h d.after (drain_good q.held q.below ok) p.count g' (drain_ends q.held q.below none (good_answer d.answer (p.good g'))))
+
   -- if all sixteen places are full, the oldest entry is put down first
-  puts : (q : QueueModel B) (e : Entry) → QueueGood good q → length e.content ≡ 512 → Puts queue_kind meaning good q e (queue_put steps q e)
-  puts q e ok z =
-      let c = evict_oldest steps q.below q.held in
-      let go : Unit {0} → QueueModel B → Stepped (Unit {0}) (QueueModel B) = λ _ u. stepped (Ok tt) (queued (u.held ++ (e ∷ [])) u.below) in
-      cond_both (nat_lt (length q.held) 16) (stepped (Ok tt) q) c (λ c. Puts queue_kind meaning good q e (next c go))
-      (λ l. puts_in queue_kind meaning good q e (q.held ++ (e ∷ [])) ok (came_in q.held e ok.held (ltb-true (length q.held) 16 l) z))
-      (λ _.
-      let p = evicts q.below q.held ok in
-      puts_next queue_kind meaning good q c go p e
-      (puts_in queue_kind meaning good c.after e (c.after.held ++ (e ∷ [])) p.ends_good
-      (came_in c.after.held e p.ends_good.held (let h = popped q.below q.held 15 ok.held.few in omega arith) z)))
+  room : QueueModel B → Stepped (Unit {0}) (QueueModel B)
+  room q = cond (nat_lt (length q.held) 16) (stepped (Ok tt) q) (evict_oldest steps q.below q.held)
+
+  makes_room : (q : QueueModel B) → QueueGood good q → Evicts queue_kind meaning good q (room q)
+  unfolding room
+  makes_room q ok =
+      cond_both (nat_lt (length q.held) 16) (stepped (Ok tt) q) (evict_oldest steps q.below q.held) (Evicts queue_kind meaning good q)
+      (λ _. evicts_none queue_kind meaning good q ok)
+      (λ _. evicts q.below q.held ok)
+
+  room_good : (q : QueueModel B) → QueueGood good q → QueueGood good (room q).after × (length (room q).after.held < 16)
+  unfolding room
+  room_good q ok = (
+    (makes_room q ok).ends_good,
+    cond_both (nat_lt (length q.held) 16) (stepped (Ok tt) q) (evict_oldest steps q.below q.held) (λ c. length c.after.held < 16)
+        (λ l. ltb-true (length q.held) 16 l)
+        (λ _. let h = popped q.below q.held 15 ok.held.few in omega arith),
+  )
+
+  room_moves :
+      (q : QueueModel B) → QueueGood good q → 0 < (meaning q.below).grant
+      → let m = queue_meaning meaning q in
+      Moves m m.line 0 (λ k. ⊥) (room q).answer (queue_meaning meaning (room q).after)
+  room_moves q ok g = (makes_room q ok).moves g
+
+  puts : (q : QueueModel B) (e : Entry) → QueueGood good q → Puts queue_kind meaning good q e (queue_put steps q e)
+  unfolding room
+  puts q e ok =
+      let c = room q in
+      let p = makes_room q ok in
+      puts_next queue_kind meaning good q c (λ _ u. stepped (Ok tt) (queued (u.held ++ (e ∷ [])) u.below)) p e
+      (puts_in queue_kind meaning good c.after e (c.after.held ++ (e ∷ [])) p.ends_good (came_in c.after.held e p.ends_good.held (room_good q ok).1))
+
+  queue_put_moves :
+      (q : QueueModel B) (e : Entry) → QueueGood good q → e.block < (meaning q.below).count → 0 < (meaning q.below).grant
+      → let c = queue_put steps q e in let m = queue_meaning meaning q in
+      Moves m (added m.line e.block e.content) 1 (λ k. ⊥) c.answer (queue_meaning meaning c.after)
+  queue_put_moves q e ok h g = (puts q e ok).moves h g
+
+  queue_put_good : (q : QueueModel B) (e : Entry) → QueueGood good q → length e.content ≡ 512 → QueueGood good (queue_put steps q e).after
+  queue_put_good q e ok z = (puts q e ok).ends_good z
 
   works : Works queue_kind meaning good steps K
   works =

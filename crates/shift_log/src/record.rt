@@ -2,7 +2,7 @@
 ghost use Rattle.std.specs.Prelude.{◌≡◌, Some};
 ghost use Rattle.shift_log.specs.Records.{block_of, encoded, decoded};
 
-use crate::kind::Kind;
+pub use crate::kind::Kind;
 use std::fmt;
 use store::BLOCK_BYTES;
 

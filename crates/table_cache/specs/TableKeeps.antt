@@ -7,8 +7,8 @@ use Rattle.std.specs.Option.{option_map}
 use native.Mathlib.Omega.{arith}
 use Rattle.std.proofs.lemmas.Bool.{cond_both, cond-true, eq-eqb, lt-ltb, ltb-true, ltb-false, cases_lt}
 use Rattle.store.specs.Steps.{Steps, Stepped, stepped, next}
-use Rattle.store.specs.Meaning.{Meaning, last_of}
-use Rattle.store.specs.Keeps.{Keeps}
+use Rattle.store.specs.Meaning.{Meaning, last_of, added}
+use Rattle.store.specs.Keeps.{Keeps, Moves}
 use Rattle.store.proofs.Moving.{next_ok}
 use Rattle.cache.specs.declared.Entry.{Entry}
 use Rattle.cache.specs.Kinds.{holding, BlocksWithin}
@@ -36,17 +36,18 @@ left_behind t i ok =
 
 -- a content goes into a slot that is ready for it
 pub came_in :
-    (t : Table) (i hand : ℕ) (e : Entry) → TableFits t → length e.content ≡ 512 → hand < 8
+    (t : Table) (i hand : ℕ) (e : Entry) → TableFits t → hand < 8
     → i < length t.slots → Ready (found t.slots e.block) e.block (slice_index_or t.slots i None)
     → CameIn table_kind t e (record { slots = slice_set t.slots i (Some e); hand = hand })
-came_in t i hand e ok z h l ready =
+came_in t i hand e ok h l ready =
     record {
-      fits = record {
-        eight = length-set t.slots i (Some e) ∙ ok.eight;
-        apart = apart_joined t.slots i e l ok.apart ready;
-        sized = every_set fits t.slots i (Some e) ok.sized (fits_from e z);
-        hand = h;
-      };
+      fits = λ z.
+          record {
+            eight = length-set t.slots i (Some e) ∙ ok.eight;
+            apart = apart_joined t.slots i e l ok.apart ready;
+            sized = every_set fits t.slots i (Some e) ok.sized (fits_from e z);
+            hand = h;
+          };
       kept = found (slice_set t.slots i None);
       struck = struck t.slots i e l ok.apart ready;
       joined = joined t.slots i e l ok.apart ready;
@@ -123,8 +124,22 @@ module _ {B : Type 0} (steps : Steps B) (meaning : B → Meaning) (good : B → 
       (λ first _. emptied_more c.after.held n (evict_first_empties n t first))
       ok
 
-  puts : (t : TableModel B) (e : Entry) → TableGood good t → length e.content ≡ 512 → Puts table_kind meaning good t e (table_put steps t e)
-  puts t e ok z =
+  place_moves :
+      (t : TableModel B) (i : ℕ) (e : Entry) → TableGood good t → 0 < (meaning t.below).grant → e.block < (meaning t.below).count
+      → i < length t.held.slots → Ready (found t.held.slots e.block) e.block (slice_index_or t.held.slots i None)
+      → let m = table_meaning meaning t in
+      Moves m (added m.line e.block e.content) 1 (λ k. ⊥) (Ok tt) (table_meaning meaning (holding (with_slot t.held i (Some e)) t.below))
+  place_moves t i e ok g h l ready =
+      (puts_in table_kind meaning good t e (with_slot t.held i (Some e)) ok (came_in t.held i t.held.hand e ok.held ok.held.hand l ready)).moves h g
+
+  place_good :
+      (t : TableModel B) (i hand : ℕ) (e : Entry) → TableGood good t → length e.content ≡ 512 → hand < 8
+      → i < length t.held.slots → Ready (found t.held.slots e.block) e.block (slice_index_or t.held.slots i None)
+      → TableGood good (holding (record { slots = slice_set t.held.slots i (Some e); hand = hand }) t.below)
+  place_good t i hand e ok z h l ready = record { below = ok.below; held = (came_in t.held i hand e ok.held h l ready).fits z }
+
+  puts : (t : TableModel B) (e : Entry) → TableGood good t → Puts table_kind meaning good t e (table_put steps t e)
+  puts t e ok =
       let i = place_for t.held.slots e.block in
       let c = evict steps t t.held.hand in
       let go : Unit {0} → TableModel B → Stepped (Unit {0}) (TableModel B) = λ _ u. stepped (Ok tt) (holding (replaced u.held e) u.below) in
@@ -134,12 +149,21 @@ module _ {B : Type 0} (steps : Steps B) (meaning : B → Meaning) (good : B → 
       (Puts table_kind meaning good t e)
       (λ l.
       puts_in table_kind meaning good t e (with_slot t.held i (Some e)) ok
-      (came_in t.held i t.held.hand e ok.held z ok.held.hand (ltb-true i (length t.held.slots) l) (place_ready t.held.slots e.block)))
+      (came_in t.held i t.held.hand e ok.held ok.held.hand (ltb-true i (length t.held.slots) l) (place_ready t.held.slots e.block)))
       (λ f.
       let p = evicts t t.held.hand ok in
       puts_next table_kind meaning good t c go p e
       (puts_in table_kind meaning good c.after e (replaced c.after.held e) p.ends_good
-      (came_in c.after.held t.held.hand (turned t.held.hand) e p.ends_good.held z (turned_in t.held.hand) (hand_in t.held ok.held) (hand_ready t.held e ok.held f))))
+      (came_in c.after.held t.held.hand (turned t.held.hand) e p.ends_good.held (turned_in t.held.hand) (hand_in t.held ok.held) (hand_ready t.held e ok.held f))))
+
+  table_put_moves :
+      (t : TableModel B) (e : Entry) → TableGood good t → e.block < (meaning t.below).count → 0 < (meaning t.below).grant
+      → let c = table_put steps t e in let m = table_meaning meaning t in
+      Moves m (added m.line e.block e.content) 1 (λ k. ⊥) c.answer (table_meaning meaning c.after)
+  table_put_moves t e ok h g = (puts t e ok).moves h g
+
+  table_put_good : (t : TableModel B) (e : Entry) → TableGood good t → length e.content ≡ 512 → TableGood good (table_put steps t e).after
+  table_put_good t e ok z = (puts t e ok).ends_good z
 
   works : Works table_kind meaning good steps K
   unfolding Emptied

@@ -28,6 +28,9 @@ impl QueueBuffer {
     fn latest(&self, block: u32) -> Option<&[u8; BLOCK_BYTES]>
         ensures { option_copied result ≡ latest None (queue_held self.now) block }
     {
+        if self.entries.is_empty() {
+            return None;
+        }
         let (older, newer) = self.entries.as_slices();
         match latest_in(newer, block) {
             Some(content) => Some(content),

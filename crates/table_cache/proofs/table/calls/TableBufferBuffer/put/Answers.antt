@@ -1,4 +1,4 @@
-use Rattle.std.proofs.Common.{◌≡◌, ◌+◌, ◌%◌, ◌<◌, length, get_or, set, None, sym, ap, subst, arith}
+use Rattle.std.proofs.Common.{◌≡◌, ◌<◌, length, get_or, set, None, sym, ap, subst, arith}
 use Rattle.store.specs.Steps.{Stepped}
 use Rattle.table_cache.specs.Table.{TableModel}
 use Rattle.table_cache.specs.TableKeeps.{came_in}
@@ -16,7 +16,7 @@ invariant_of-self g c =
     let i = c.in-Some.place in
     let at = below_some (length t.slots) i (place_for t.slots e.block) c.in-Some.ensures in
     let l : i < length t.slots = let a = at.0 in let b = at.1 in omega arith in
-    record { fits = (came_in t i t.hand e fits (omega arith) fits.hand l (rw at.0 (place_ready t.slots e.block))).fits }
+    record { fits = (came_in t i t.hand e fits fits.hand l (rw at.0 (place_ready t.slots e.block))).fits (omega arith) }
 
 pub invariant_of-self-2 : goal.invariant_of-self-2
 invariant_of-self-2 g c =
@@ -32,4 +32,4 @@ invariant_of-self-2 g c =
     let ready : Ready (found u.slots e.block) e.block (get_or u.slots t.hand None) =
     subst (λ (slots : Slots). Ready (found slots e.block) e.block (get_or slots t.hand None)) (sym v)
     (emptied_ready t.slots t.hand e.block c.args.self.now.fits.apart (placeless t.slots e.block p)) in
-    record { fits = (came_in u t.hand ((t.hand + 1) % 8) e fits (omega arith) (omega arith) l ready).fits }
+    record { fits = (came_in u t.hand _ e fits (omega arith) l ready).fits (omega arith) }
