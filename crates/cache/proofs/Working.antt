@@ -119,7 +119,7 @@ module _ (kind : CacheKind) where
       pub record Works : Type 0 where
         pub sized : (held : kind.Held) → kind.fits held → sized (kind.entries held) ≡ true
         pub newest : (held : kind.Held) (b : ℕ) → kind.fits held → Newest (waiting (kind.entries held) b) (kind.lookup held b)
-        pub puts : (c : CacheModel kind.Held B) (e : Entry) → CacheGood kind good c → Puts c e (kind.put steps c e)
+        pub puts : (c : CacheModel kind.Held B) (e : Entry) → CacheGood kind good c → length e.content ≡ 512 → Puts c e (kind.put steps c e)
         pub evicts : (c : CacheModel kind.Held B) (b : ℕ) → CacheGood kind good c → Evicts c (kind.evict steps c b)
         pub evicted :
             (c : CacheModel kind.Held B) (b : ℕ) → CacheGood kind good c → (kind.evict steps c b).answer ≡ Ok tt
@@ -173,7 +173,7 @@ module _ (kind : CacheKind) where
                   sound_over (meaning c.below) (waiting (kind.entries c.held)) (K.sound c.below ok.below)
                   (λ k. sized_waiting (kind.entries c.held) k (works.sized c.held ok.held));
               reads = read_moves_above;
-              puts = λ c b x ok z. (works.puts c (record { block = b; content = x }) ok).moves;
+              puts = λ c b x ok z. (works.puts c (record { block = b; content = x }) ok z).moves;
               forces = λ c b ok h g.
                   let m = cache_meaning kind meaning c in
                   let r = kind.evict steps c b in
@@ -198,7 +198,7 @@ module _ (kind : CacheKind) where
                   (works.all_evicted c ok (good_answer r.answer (q.good g'))));
               read_good = λ c b ok.
                   read_keeps (CacheGood kind good) c b (record { below = K.read_good c.below b ok.below; held = ok.held }) ok;
-              put_good = λ c b x ok z _. (works.puts c (record { block = b; content = x }) ok).ends_good z;
+              put_good = λ c b x ok z _. (works.puts c (record { block = b; content = x }) ok z).ends_good z;
               force_good = λ c b ok.
                   let p = works.evicts c b ok in
                   next_keeps (CacheGood kind good) (kind.evict steps c b) (λ _ u. raised (holding u.held) (steps.force u.below b)) p.ends_good
@@ -229,7 +229,7 @@ module _ (kind : CacheKind) where
               puts = λ c b x ok z w.
                   let e : Entry = record { block = b; content = x } in
                   guarded_keeps (BlocksWithin kind meaning) (steps.count c.below) (steps.power c.below) b c (kind.put steps c e) w
-                  (λ h. (works.puts c e ok).within (let n = K.counts c.below ok.below in omega arith) w);
+                  (λ h. (works.puts c e ok z).within (let n = K.counts c.below ok.below in omega arith) w);
               forces = λ c b ok w.
                   let r = kind.evict steps c b in
                   let p = works.evicts c b ok in

@@ -16,7 +16,7 @@ use Rattle.cache.specs.WriteBack.{raised}
 use Rattle.cache.specs.Kinds.{BlocksWithin}
 use Rattle.cache.specs.Preserves.{Preserves}
 use Rattle.queue_cache.specs.Queue.{QueueModel, QueueFits, QueueGood, queued, latest, holds, any, evict_oldest, drain, drained, queue_put, queue_kind, queue_steps, queue_meaning}
-use Rattle.cache.proofs.Entries.{none_left, every_push, every_tail, fits, fits_from, sized_head, sized_tail}
+use Rattle.cache.proofs.Entries.{none_left, within_same, every_push, every_tail, fits, fits_from, sized_head, sized_tail}
 use Rattle.cache.proofs.Over.{Joined, struck_none}
 use Rattle.cache.proofs.Working.{Newest, LeftBehind, CameIn, Evicts, Puts, Works, evicts_none, evicts_next, evicts_entry, puts_in, puts_next, works_keeps, works_preserve}
 
@@ -146,6 +146,16 @@ module _ {B : Type 0} (steps : Steps B) (meaning : B → Meaning) (good : B → 
         p (λ k s. s) (λ k l s. s)
         (λ g'. h d.after (drain_good q.held q.below ok) p.count g' (drain_ends q.held q.below none (good_answer d.answer (p.good g'))))
 
+    drained_within :
+        (q : QueueModel B) (go : QueueModel B → Stepped (Unit {0}) B) → QueueGood good q → BlocksWithin queue_kind meaning q
+        → ((u : QueueModel B) → QueueGood good u → (meaning (go u).after).count ≡ (meaning u.below).count)
+        → BlocksWithin queue_kind meaning (next (drained steps wanted q) (λ _ u. raised (queued u.held) (go u))).after
+    drained_within q go ok w h =
+        let d = drained steps wanted q in
+        let p = drains q.held q.below ok in
+        next_keeps (BlocksWithin queue_kind meaning) d (λ _ u. raised (queued u.held) (go u)) (p.within w)
+        (λ _. within_same (meaning d.after.below).count (meaning (go d.after).after).count d.after.held (h d.after p.ends_good) (p.within w))
+
   -- if all sixteen places are full, the oldest entry is put down first
   room : QueueModel B → Stepped (Unit {0}) (QueueModel B)
   room q = cond (nat_lt (length q.held) 16) (stepped (Ok tt) q) (evict_oldest steps q.below q.held)
@@ -194,7 +204,7 @@ module _ {B : Type 0} (steps : Steps B) (meaning : B → Meaning) (good : B → 
       record {
         sized = λ es ok. ok.sized;
         newest = λ es b _. latest_newest es b;
-        puts = puts;
+        puts = λ q e ok z. puts q e ok;
         evicts = λ q b ok. drains (holds b) q.held q.below ok;
         evicted = λ q b ok w. none_held b (drained steps (holds b) q).after.held (drain_ends (holds b) q.held q.below refl w);
         evicts_all = λ q ok. drains any q.held q.below ok;

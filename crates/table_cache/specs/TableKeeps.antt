@@ -171,7 +171,7 @@ module _ {B : Type 0} (steps : Steps B) (meaning : B → Meaning) (good : B → 
       record {
         sized = λ t ok. ok.sized;
         newest = newest_found;
-        puts = puts;
+        puts = λ t e ok z. puts t e ok;
         evicts = λ t b ok. evicts t (slot_of t.held.slots b) ok;
         evicted = λ t b ok _.
             let i = slot_of t.held.slots b in
