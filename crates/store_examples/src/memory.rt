@@ -12,7 +12,7 @@ const NOBODY: u32 = u32::MAX;
 pub fn blocks(heap: Global, bytes: &[u8]) -> Result<Vec<u8>, AllocError>
     ensures { IfOk result (λ memory. memory.items ≡ block_memory bytes.now) }
 {
-    // a block at a time: as a `flat_map` over each byte's repetitions it took twelve times as long
+    // a block at a time: as a `flat_map` over each byte's repetitions it took nearly thirteen times as long
     let mut memory = Vec::new(heap);
     for byte in bytes {
         memory.extend_from_slice(&filled(*byte))?;
